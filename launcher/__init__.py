@@ -2,6 +2,8 @@
 
 Words:
     words           the command line: takes the launcher's words, and passes the others to the program
+    run_words       the words about what the program prints of a cell
+    asked           the words without options, and the program that answers them
     actions         the table of words, and the help
     say             what the launcher prints, and its own statuses
     hints           what helps where words or a file are refused
@@ -15,6 +17,7 @@ The program:
     kept            the unproved program, kept with a checksum of the sources
 Texts:
     texts           the texts of a cell: its script and its modules
+    script          what a script says: tasks, signals, zones, inputs
     toml_places     the keys of a TOML text and where they stand
     toml_faults     where and why a text is not TOML
     tokens          the tokens of a module's text
@@ -38,6 +41,20 @@ All errors at once:
     faults          the search for all errors
     check_all       `check --all CELL`
     watch           `watch CELL`
+A run:
+    history         the lines of a history
+    replay          a cell along a history: its arms, zones and signals
+    trace           the lines of a trace: events with the places of statements
+    table           `table CELL`
+    timeline        the events of a run as columns of numbers
+    show            `show CELL`; page/ has the page's parts: page.html, page.css, and its scripts
+    coverage        which statements ran, and which lists inside them
+    cover           `cover CELL..`
+The code of tasks:
+    statements      the routines of a module and their statements
+    code            the code of a task, walked along its statements
+    lengths         the names of the places where a task keeps its data
+    listing         `list --source CELL`
 The language server:
     lsp             the server; lsp_wire, lsp_text, lsp_files, lsp_checker, lsp_diagnostics, lsp_hover, lsp_definition, lsp_completion
     symbols         what a name of a cell means

@@ -27,6 +27,10 @@ ACTIONS = (
     Action("run", "CELL", True, "the same with a thread for each task: the lines may come in a different order each time"),
     Action("list", "CELL", True, "checks the cell, and prints its persistents (P), signals (D), meetings (G) and the\ncode of its tasks (C)"),
     Action("load", "N", True, "runs a cell of four tasks that make N moves each, to measure the program"),
+    Action("audit", "CELL HISTORY", True, "checks the cell, and says whether it can have the history that --history printed to a\nfile, or what is wrong first (A)"),
+    Action("table", "CELL", False, "runs the cell as round does, and prints its setpoints, signals and texts as CSV"),
+    Action("show", "CELL", False, "runs the cell as round does, and writes a page of the run for a browser, named as the\nfolder of the cell, or as -o FILE says"),
+    Action("cover", "CELL..", False, "runs one or several cells as round does, and prints how many lines and branches of their\nmodules ran, and which did not"),
     Action("watch", "CELL", False, "checks again whenever a file of the cell changes; Ctrl-C ends it"),
     Action("explain", "WORD", False, "a rule, a fault, a status, an error's number, or any word of RAPID: its cause, an\nexample, what to write instead"),
     Action("build", "", False, "proves every crate of the program and builds it: an hour or more the first time"),
@@ -38,6 +42,10 @@ ACTIONS = (
 OPTIONS = (
     Option("--history", True, "prints every event of a run, as a line H, in place of its setpoints and texts"),
     Option("--all", False, "with check: goes on after an error, and shows up to 50 errors at once"),
+    Option("--run", False, "with table and show: gives each task a thread, as run does"),
+    Option("--lcov", False, "with cover: prints the counts as a tracefile of lcov, for editors"),
+    Option("-o", False, "with show, before the name of a file: writes the page there"),
+    Option("--source", False, "with list: prints each operation below the line of the module that it belongs to"),
     Option("--plain", False, "prints only the program's own lines"),
     Option("--proved", False, "waits for the proof if the program is not built yet, instead of giving an unproved answer"),
     Option("--unproved", False, "answers with the unproved program, even if the proved one is built"),
@@ -74,6 +82,11 @@ def help_lines(words: str, does: str) -> List[str]:
 
 def is_programs_action(word: bytes) -> bool:
     return any(it.is_programs and it.name.encode() == word for it in ACTIONS)
+
+
+def word_count(word: bytes) -> int:
+    """How many words an action of the program has, its own among them."""
+    return next((1 + len(it.takes.split()) for it in ACTIONS if it.is_programs and it.name.encode() == word), 2)
 
 
 def nearest(word: str, names: Iterable[str]) -> Optional[str]:

@@ -12,6 +12,10 @@ _rapid_cell() {{
         case $it in -*) ;; *) action=$it; break ;; esac
     done
     COMPREPLY=()
+    if [[ ${{COMP_WORDS[COMP_CWORD-1]}} == -o ]]; then
+        COMPREPLY=($(compgen -f -- "$word"))
+        return
+    fi
     if [[ $word == -* ]]; then
         COMPREPLY=($(compgen -W "{options}" -- "$word"))
         return
@@ -22,6 +26,10 @@ _rapid_cell() {{
         local IFS=$'\\n'
         compopt -o filenames 2>/dev/null
         COMPREPLY=($(compgen -d -- "$word") $(compgen -f -X '!*.toml' -- "$word")) ;;
+    {takes_history})
+        local IFS=$'\\n'
+        compopt -o filenames 2>/dev/null
+        COMPREPLY=($(compgen -f -- "$word")) ;;
     explain) COMPREPLY=($(compgen -W "{words}" -- "$word")) ;;
     completion) COMPREPLY=($(compgen -W "{shells}" -- "$word")) ;;
     esac
@@ -37,6 +45,10 @@ _rapid_cell() {{
     for it in "${{(@)words[2,CURRENT-1]}}"; do
         case $it in -*) ;; *) action=$it; break ;; esac
     done
+    if [[ ${{words[CURRENT-1]}} == -o ]]; then
+        _files
+        return
+    fi
     if [[ ${{words[CURRENT]}} == -* ]]; then
         compadd -- {options}
         return
@@ -44,6 +56,7 @@ _rapid_cell() {{
     case $action in
     '') compadd -- {actions} ;;
     {takes_cell}) _files -g '*.toml' ;;
+    {takes_history}) _files ;;
     explain) compadd -- {words} ;;
     completion) compadd -- {shells} ;;
     esac
@@ -57,7 +70,8 @@ def script(shell: str) -> str:
     return (BASH if shell == "bash" else ZSH).format(
         options=" ".join([it.name for it in OPTIONS] + ["--help", "--version"]),
         actions=" ".join(it.name for it in ACTIONS),
-        takes_cell="|".join(it.name for it in ACTIONS if it.takes == "CELL"),
+        takes_cell="|".join(it.name for it in ACTIONS if it.takes in ("CELL", "CELL..")),
+        takes_history="|".join(it.name for it in ACTIONS if it.takes == "CELL HISTORY"),
         words=" ".join(known_words()),
         shells=" ".join(SHELLS),
     )

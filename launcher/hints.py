@@ -8,7 +8,7 @@ from typing import Iterable, List, Optional, Sequence
 from . import actions
 from .refusals import Kind, Refusal
 from .say import HINT
-from .texts import LONGEST_MODULE, LONGEST_SCRIPT, Cell
+from .texts import LONGEST_HISTORY, LONGEST_MODULE, LONGEST_SCRIPT, Cell
 
 HISTORY = b"--history"
 
@@ -30,7 +30,8 @@ def cause_of_words(place: int, words: Sequence[str], given: Sequence[bytes]) -> 
     if word.startswith("-"):
         if word == HISTORY.decode():
             return [f"{word} is given twice"]
-        return [f"there is no option {word}{meant(word, [it.name for it in actions.OPTIONS])}"]
+        names = [it.name for it in actions.OPTIONS]
+        return [f"{word} does not go with this action" if word in names else f"there is no option {word}{meant(word, names)}"]
     others = [k for k, it in enumerate(words) if it != HISTORY.decode()]
     if place == others[0]:
         return unknown_action(word, given[place])
@@ -46,6 +47,8 @@ def missing(words: Sequence[str]) -> List[str]:
     action = next((it for it in actions.ACTIONS if it.name == others[0]), None)
     if action and action.takes == "N":
         return [f"{action.name} takes a number: ./rapid_cell {action.name} 10"]
+    if action and action.takes == "CELL HISTORY" and len(others) == 2:
+        return [f"{action.name} takes a history after the script: ./rapid_cell {action.name} {others[1]} history.txt"]
     here = sorted(it.name for it in Path().glob("*.toml"))
     example = here[0] if here else "examples/first_move/cell.toml"
     return [f"{others[0]} takes the script of a cell: ./rapid_cell {others[0]} {example}"]
@@ -88,10 +91,23 @@ def is_pipe(name: bytes) -> bool:
         return False
 
 
-def of_file(refusal: Refusal, cell: Optional[Cell], script: Path) -> List[str]:
-    """Why a file could not be read, or is too long."""
+def is_read_once(name: bytes) -> bool:
+    """Whether a file is a pipe or a device, which gives its text only once."""
+    try:
+        kind = os.stat(name).st_mode
+    except (OSError, ValueError):
+        return False
+    return not (stat.S_ISREG(kind) or stat.S_ISDIR(kind))
+
+
+def of_file(refusal: Refusal, cell: Optional[Cell], script: Path, history: Optional[bytes] = None) -> List[str]:
+    """Why a file could not be read, or is too long. `history` is the name of the audited history, if there is one."""
     name = os.fsdecode(refusal.name)
     is_script = name == str(script)
+    if refusal.name == history and not is_script:
+        if refusal.kind is Kind.LONG:
+            return [f"{shown_path(Path(name))} has more than {LONGEST_HISTORY:,} bytes"]
+        return [unread(Path(name))]
     module = cell.named(refusal.name) if cell and not is_script else None
     file = module.file if module else script if is_script else script.parent / name
     if refusal.kind is Kind.LONG:

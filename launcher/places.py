@@ -8,4 +8,5 @@ PROGRAM = CRATES / CRATE / "out" / CRATE
 LANGUAGE = TOP / "docs" / "LANGUAGE.md"
 CELL_SCRIPT = TOP / "docs" / "CELL_SCRIPT.md"
 MANUAL = TOP / "launcher" / "manual.txt"
+PAGE = TOP / "launcher" / "page"
 RESERVED = TOP / "launcher" / "reserved.txt"

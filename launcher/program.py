@@ -1,10 +1,12 @@
 """The program, proved or unproved: finds it, runs it, becomes it."""
+import contextlib
 import os
 import signal
 import subprocess
+import tempfile
 from dataclasses import dataclass
 from pathlib import Path
-from typing import Optional, Sequence, Union
+from typing import Callable, Iterator, Optional, Sequence, Union
 
 from . import kept
 from .child import started
@@ -84,10 +86,31 @@ def run(program: Program, words: Sequence[bytes]) -> Answer:
             status = child.wait()
     except OSError as error:
         return Answer(does_not_start(program, error), b"", b"")
+    return Answer(shell_status(status), b"", said)
+
+
+def read(program: Program, words: Sequence[Word], take: Callable[[Iterator[str]], None]) -> Answer:
+    """Runs the program and hands its lines to `take` as they come, without their ends. What it says on standard error is kept."""
+    with contextlib.ExitStack() as stack:
+        said = stack.enter_context(tempfile.TemporaryFile())
+        how = {"stdin": subprocess.DEVNULL, "stdout": subprocess.PIPE, "stderr": said}
+        try:
+            child = stack.enter_context(started([program.file, *words], end_child, **how))
+        except OSError as error:
+            return Answer(does_not_start(program, error), b"", b"")
+        assert child.stdout
+        take(line.decode("utf-8", "surrogateescape").rstrip("\n") for line in child.stdout)
+        status = child.wait()
+        said.seek(0)
+        return Answer(shell_status(status), b"", said.read())
+
+
+def shell_status(status: int) -> int:
+    """The status of a child as shells give it; one that a signal stopped is reported."""
     if status < 0:
         say(f"the program was stopped by signal {-status}")
-        status = 128 - status
-    return Answer(status, b"", said)
+        return 128 - status
+    return status
 
 
 def end_child(child: "subprocess.Popen[bytes]", ended: BaseException) -> None:

@@ -13,6 +13,7 @@ class Kind(enum.Enum):
     LONG = "long"
     MEMORY = "memory"
     WRITE = "write"
+    HISTORY = "history"
 
 
 @dataclass(frozen=True)
@@ -20,7 +21,7 @@ class Refusal:
     """What the program refused.
 
     `name` is a file as the script or the caller spells it (module, read, long), `row` and `column` count from 1 and columns
-    count bytes (module), `rule` is a rule's name (module, script), `key` a key of the script (script), and `place` the place
+    count bytes (module; of history only the row), `rule` is a rule's name (module, script), `key` a key of the script (script), and `place` the place
     of a word, from 0 (words).
     """
 
@@ -40,6 +41,7 @@ FORMS = re.compile(
     rb"|words (?P<place>\d+)"
     rb"|read (?P<read>.*)"
     rb"|long (?P<long>.*)"
+    rb"|history (?P<line>\d+)"
     rb"|(?P<alone>memory|write)"
     rb")\n\Z",
     re.M | re.S,
@@ -62,6 +64,8 @@ def parse(said: bytes) -> Optional[Refusal]:
         return Refusal(Kind.READ, name=found["read"])
     if found["long"] is not None:
         return Refusal(Kind.LONG, name=found["long"])
+    if found["line"] is not None:
+        return Refusal(Kind.HISTORY, row=int(found["line"]))
     return Refusal(Kind(found["alone"].decode()))
 
 
@@ -73,5 +77,6 @@ def line_of(refusal: Refusal) -> bytes:
         Kind.MODULE: b"module %s %d:%d %s" % (refusal.name, refusal.row, refusal.column, refusal.rule.encode()),
         Kind.READ: b"read %s" % refusal.name,
         Kind.LONG: b"long %s" % refusal.name,
+        Kind.HISTORY: b"history %d" % refusal.row,
     }.get(refusal.kind, refusal.kind.value.encode())
     return b"rapid_cell: %s\n" % told

@@ -3,7 +3,7 @@ import os
 from pathlib import Path
 from typing import List, Mapping, Optional, Sequence
 
-from . import causes, hints, toml_faults, toml_places
+from . import actions, causes, hints, toml_faults, toml_places
 from .excerpt import Place, excerpt, note
 from .refusals import Kind, Refusal
 from .texts import Cell, Module, place_of, read, read_cell
@@ -17,12 +17,24 @@ def shown(refusal: Refusal, words: Sequence[bytes], is_coloured: bool = False) -
         return said(["out of memory: use a machine with more memory, or smaller modules"])
     if refusal.kind is Kind.WRITE:
         return said(["not everything could be printed: check where standard output goes: a full disk, a closed pipe"])
-    script = script_of(words)
-    return of_cell(refusal, script, {}, is_coloured) if script else []
+    script, history = script_of(words), history_of(words)
+    if refusal.kind is Kind.HISTORY:
+        return of_history(refusal, history)
+    return of_cell(refusal, script, {}, is_coloured, history=history) if script else []
+
+
+def of_history(refusal: Refusal, history: Optional[bytes]) -> List[str]:
+    name = hints.shown_word(history) if history else "the history"
+    return said([f"line {refusal.row} of {name} is none that --history prints for this cell after the lines before it: docs/LANGUAGE.md, \"Reading a history\""])
 
 
 def of_cell(
-    refusal: Refusal, script: Path, changed: Mapping[Path, bytes], is_coloured: bool, seen: Optional[bytes] = None
+    refusal: Refusal,
+    script: Path,
+    changed: Mapping[Path, bytes],
+    is_coloured: bool,
+    seen: Optional[bytes] = None,
+    history: Optional[bytes] = None,
 ) -> List[str]:
     """The same for what is refused in a cell's files. `seen` is the module's text as it was checked, if it differs from that of its
     file; both have the same length and the same lines."""
@@ -31,7 +43,7 @@ def of_cell(
     except (OSError, ValueError):
         cell = None
     if refusal.kind in (Kind.READ, Kind.LONG):
-        return said(hints.of_file(refusal, cell, script))
+        return said(hints.of_file(refusal, cell, script, history))
     if cell is None:
         return []
     if refusal.kind is Kind.SCRIPT:
@@ -78,4 +90,10 @@ def said(lines: Sequence[str]) -> List[str]:
 def script_of(words: Sequence[bytes]) -> Optional[Path]:
     """The script's path among words that name one."""
     others = [word for word in words if word != hints.HISTORY]
-    return Path(os.fsdecode(others[1])) if len(others) == 2 else None
+    return Path(os.fsdecode(others[1])) if others and len(others) == actions.word_count(others[0]) else None
+
+
+def history_of(words: Sequence[bytes]) -> Optional[bytes]:
+    """The name of the history among words that name one."""
+    others = [word for word in words if word != hints.HISTORY]
+    return others[2] if len(others) == 3 else None

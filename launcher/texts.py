@@ -9,6 +9,7 @@ from . import toml_places
 # The sizes above which the program reads no text.
 LONGEST_SCRIPT = 262_144
 LONGEST_MODULE = 1_048_576
+LONGEST_HISTORY = 33_554_432
 
 
 @dataclass(frozen=True)

@@ -1,12 +1,13 @@
 """The command line: takes the launcher's words, and passes the others to the program."""
 import os
 import signal
-from dataclasses import dataclass
 from pathlib import Path
 from typing import Callable, Dict, List, Optional, Sequence
 
 from . import actions, build, hints, kept, program
+from .asked import Asked, ended, found_program, helped, made_program, misplaced, taken_apart
 from .program import Program
+from .run_words import OF_RUNS, listed
 from .say import (
     NO_PROGRAM,
     NOT_PRINTED,
@@ -14,25 +15,12 @@ from .say import (
     STOPPED,
     NotPrinted,
     broken,
-    is_coloured,
     open_closed_streams,
     put_err,
     put_out,
     say,
-    show,
     wrong,
 )
-
-
-@dataclass
-class Asked:
-    """The words without the launcher's options, and which of these were given."""
-
-    words: List[bytes]
-    has_all: bool = False
-    is_plain: bool = False
-    has_proved: bool = False
-    has_unproved: bool = False
 
 
 def main(given: Sequence[str]) -> int:
@@ -85,25 +73,15 @@ def ask(given: List[bytes]) -> int:
         return watch(asked)
     if words[:1] == [b"lsp"]:
         return serve(words[1:])
-    if asked.has_all and words[:1] != [b"check"]:
-        return wrong("--all goes with check")
+    misplaced_option = misplaced(asked)
+    if misplaced_option:
+        return wrong(misplaced_option)
+    of_run = OF_RUNS.get(words[0]) if words else None
+    if of_run:
+        return of_run(asked)
+    if asked.has_source and refused_place(words) is None:
+        return listed(asked)
     return of_program(asked)
-
-
-def taken_apart(given: Sequence[bytes]) -> Asked:
-    asked = Asked([])
-    for word in given:
-        if word == b"--all":
-            asked.has_all = True
-        elif word == b"--plain":
-            asked.is_plain = True
-        elif word == b"--proved":
-            asked.has_proved = True
-        elif word == b"--unproved":
-            asked.has_unproved = True
-        else:
-            asked.words.append(word)
-    return asked
 
 
 # The launcher's own words
@@ -190,10 +168,7 @@ def of_program(asked: Asked) -> int:
         return program.become(found, words)
     if found.is_proved and not asked.is_plain:
         build.say_where_stale()
-    status = all_checked(asked, found) if asked.has_all else run(asked, found)
-    if not found.is_proved and status != REFUSED and not asked.is_plain:
-        say("not proved; ./rapid_cell build proves the program, in an hour or more")
-    return status
+    return ended(asked, found, all_checked(asked, found) if asked.has_all else run(asked, found))
 
 
 def run(asked: Asked, found: Program) -> int:
@@ -212,36 +187,6 @@ def all_checked(asked: Asked, found: Program) -> int:
     return check_all(found, asked.words, script, asked.is_plain) if script else run(asked, found)
 
 
-def found_program(asked: Asked) -> Optional[Program]:
-    """The program that answers without being made first."""
-    if asked.has_unproved:
-        return program.unproved()
-    return program.proved() if asked.has_proved else program.ready()
-
-
-def made_program(asked: Asked) -> Optional[Program]:
-    if asked.has_proved:
-        return program.proved() if build.build() == 0 else None
-    file = kept.make() if kept.is_kept_by_kit() else None
-    return Program(file, False) if file else None
-
-
-def helped(asked: Asked, status: int, said: bytes) -> int:
-    """Adds what helps to a refusal of the program, and returns the status, which nothing here changes."""
-    if asked.is_plain:
-        return status
-    try:
-        from .refusals import parse
-        from .shown import shown
-
-        refusal = parse(said)
-        for line in shown(refusal, asked.words, is_coloured()) if refusal else []:
-            show(line)
-    except Exception as error:
-        say(f"it cannot be explained ({error})")
-    return status
-
-
 def refused_place(words: Sequence[bytes]) -> Optional[int]:
     """The place of the first cause by which the words are refused, in the order of docs/CELL_SCRIPT.md, or None."""
     places = range(len(words))
@@ -254,8 +199,9 @@ def refused_place(words: Sequence[bytes]) -> Optional[int]:
         return history[1]
     if others and not actions.is_programs_action(words[others[0]]):
         return others[0]
-    if len(others) < 2:
+    count = actions.word_count(words[others[0]]) if others else 2
+    if len(others) < count:
         return len(words)
-    if others[2:]:
-        return others[2]
-    return None if hints.is_utf8(words[others[1]]) else others[1]
+    if others[count:]:
+        return others[count]
+    return next((k for k in others[1:] if not hints.is_utf8(words[k])), None)

@@ -24,6 +24,7 @@ MODULE Forms(NOVIEW, NOSTEPIN)
   VAR intnum counted;
   VAR shapedata shape;
   VAR wztemporary zone;
+  VAR wztemporary door;
   VAR wzstationary fixed;
   VAR syncident at_table;
 
@@ -43,6 +44,7 @@ MODULE Forms(NOVIEW, NOSTEPIN)
     WZLimSup\Stat, fixed, shape;
     WZLimJointDef\Inside, shape, [[200,9E9,9E9,9E9,9E9,9E9],[9E9,9E9,9E9,9E9,9E9,9E9]], [[9E9,300,9E9,9E9,9E9,9E9],[9E9,9E9,9E9,9E9,9E9,9E9]];
     WZLimSup\Temp, zone, shape;
+    WZDOSet\Temp\Inside, door, shape, do_door, 1;
     WZDisable zone;
     WZEnable zone;
     MoveAbsJ home\NoEOffs, quick, fine, tool0\WObj:=wobj0;

@@ -123,6 +123,13 @@ def as_nobody(folder):
     os.setuid(65534)
 
 
+def lose_module(name):
+    """Leaves Python without a module, also for the files of the launcher that other tests have loaded."""
+    for it in [it for it in sys.modules if it.partition(".")[0] == "launcher"]:
+        del sys.modules[it]
+    sys.modules[name] = None
+
+
 def try_checkouts():
     """A checkout that lacks files, or whose files may not be read."""
     with tempfile.TemporaryDirectory() as folder:
@@ -142,7 +149,7 @@ def try_checkouts():
             compare(f"without {name}: {words[0]}", (status, out, len(err.splitlines()), "fetch the checkout again" in err), (124, "", 1, True))
             aside.rename(file)
         # Without a module of Python.
-        status, out, err = ask("explain", "NoName", before=lambda: sys.modules.update(textwrap=None))
+        status, out, err = ask("explain", "NoName", before=lambda: lose_module("textwrap"))
         compare("without a module of Python", (status, out, len(err.splitlines()), "textwrap" in err), (124, "", 1, True))
         try_unreadable(frame)
         # What is added to a refusal changes no status.

@@ -10,8 +10,8 @@ ABB = Path(__file__).resolve().parent / "abb"
 # Words that the five cells have of their own: a RECORD and its components, an optional parameter, a routine that is forgotten, and what
 # a controller's configuration names.
 OF_CELLS = ("partdata", "program", "length", "good", "report", "STN1")
-MORE = "cornerzone Conc edge 101 41 ERR_UNKINO S T E P0 D0 G0 C read module words script long v1000 num rax_3 eax_f taskname robax NoEOffs trans Quick"
-OWN = "check round run list load watch explain build lsp completion version help --history --all --plain --proved --unproved"
+MORE = "cornerzone Conc edge 101 41 ERR_UNKINO S T E P0 D0 G0 C read module words script long v1000 num rax_3 eax_f taskname history A robax NoEOffs trans Quick"
+OWN = "check round run list load audit table show cover watch explain build lsp completion version help --history --all --run --source --lcov -o --plain --proved --unproved"
 
 
 def try_explain():
@@ -32,7 +32,7 @@ def try_explain():
         parts = list(explain.parts_for(word))
         lines = [line for _, lines in parts for line in lines]
         compare(f"explain {word}", len(parts) > 0 and len(lines) > 1 and all(it.startswith("  ") for it in lines), True)
-    for word in ("of", "a", "an", "the", "at", "by", "on", "off", "file", "I", "or so", "zork", "", "\\"):
+    for word in ("of", "an", "the", "at", "by", "on", "off", "file", "I", "or so", "zork", "", "\\"):
         compare(f"explain {word}", len(list(explain.parts_for(word))) > 0, word == "\\")
     of_histories = "Look Flood ReadP WriteP TestSet ReadS WriteS Position Setpoint Given Stopped Hold Rise Arrive Met Apart Connect Already NoMore Order Unknown Sleep Watch Delete Disable Enable Leave ZoneSet ZoneOn ZoneOff ZoneFree Say Input"
     for word in of_histories.split():

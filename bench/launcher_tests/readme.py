@@ -1,4 +1,4 @@
-"""README.md: its commands, its length, and the links of all pages."""
+"""README.md: its commands, its length, and the links of all pages; the commands of docs/SEEING.md."""
 import re
 import shutil
 import subprocess
@@ -6,7 +6,7 @@ import tempfile
 from pathlib import Path
 
 from . import common
-from .common import EXAMPLES, LAUNCHER, TOP, compare, text_of
+from .common import EXAMPLES, LAUNCHER, TOP, compare, document, text_of
 
 # The most words of the page, as `wc -w` counts them.
 MOST = 600
@@ -24,15 +24,14 @@ def try_readme():
     """Each command that README.md shows, in a folder of its own: with the lines below it, in which `...` stands for any lines, or
     with its status alone. What breaks and mends the module there is done as it says."""
     with tempfile.TemporaryDirectory() as folder:
-        shutil.copytree(EXAMPLES, Path(folder, "examples"))
-        Path(folder, "rapid_cell").symlink_to(LAUNCHER)
+        prepare(folder)
         module = Path(folder, "examples/first_move/first_move.mod")
         whole = module.read_text()
         tried = 0
         for block in re.findall(r"(?:^    .*\n)+", text(), re.M):
             module.write_text(whole.replace("fine", "z10", 1) if "CornerZone" in block else whole)
-            for command, lines in re.findall(r"^    \$ (.*)\n((?:    (?!\$ ).*\n)*)", block, re.M):
-                try_lines(folder, command, re.sub("^    ", "", lines, flags=re.M))
+            for command, lines in commands(block):
+                try_lines(folder, command, lines)
                 tried += 1
         module.write_text(whole)
         for command in re.findall(r"`(\./rapid_cell [^`]*)`", text()):
@@ -43,11 +42,31 @@ def try_readme():
         compare("commands of README.md", tried >= 11, True)
 
 
+def try_seeing():
+    with tempfile.TemporaryDirectory() as folder:
+        prepare(folder)
+        found = list(commands(document("SEEING")))
+        for command, lines in found:
+            try_lines(folder, command, lines)
+        compare("commands of docs/SEEING.md", len(found) >= 2, True)
+
+
+def prepare(folder):
+    shutil.copytree(EXAMPLES, Path(folder, "examples"))
+    Path(folder, "rapid_cell").symlink_to(LAUNCHER)
+
+
+def commands(text):
+    """Each command that a page shows, and the lines below it."""
+    for command, lines in re.findall(r"^    \$ (.*)\n((?:    (?!\$ ).*\n)*)", text, re.M):
+        yield command, re.sub("^    ", "", lines, flags=re.M)
+
+
 def try_lines(folder, command, lines):
     status, out, err = start(folder, command)
     got = out + "".join(line for line in err.splitlines(True) if not line.startswith("launcher: "))
     wanted = re.escape(lines).replace(re.escape("...\n"), "(?:.*\n)+")
-    compare(f"README.md, {command}", (bool(re.fullmatch(wanted, got)), got), (True, got))
+    compare(f"the lines of {command}", (bool(re.fullmatch(wanted, got)), got), (True, got))
 
 
 def start(folder, command):
@@ -56,7 +75,7 @@ def start(folder, command):
     ran = subprocess.run(words + common.options, cwd=folder, stdout=subprocess.PIPE, stderr=subprocess.PIPE)
     err = text_of(ran.stderr)
     if words[1] not in OWN:
-        compare(f"README.md, {command}, proved", err.splitlines()[-1:] == [NOT_PROVED], not common.program().is_proved)
+        compare(f"{command}, proved", err.splitlines()[-1:] == [NOT_PROVED], not common.program().is_proved)
     return ran.returncode, text_of(ran.stdout), err
 
 

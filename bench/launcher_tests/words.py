@@ -34,7 +34,7 @@ def try_places():
     """The launcher's rule of refused words against the program's."""
     from launcher.words import refused_place
 
-    for line in ("", "x", "check", "list", "run", "round a b", "run a b", "check a b", "--history --history", "check -x", "-", "check \xff", "\xff a", "check \xff b"):
+    for line in ("", "x", "check", "list", "run", "round a b", "run a b", "check a b", "--history --history", "check -x", "-", "check \xff", "\xff a", "check \xff b", "audit", "audit a", "audit a b c", "audit a \xff"):
         words = line.encode("latin-1").split()
         ran = subprocess.run([os.fsencode(program().file), *words], stdout=subprocess.PIPE, stderr=subprocess.PIPE)
         place = refused_place(words)
@@ -49,11 +49,13 @@ def try_meant():
             (("chek", "first/cell.toml"), "there is no action chek: did you mean check?"),
             (("explian", "NoName"), "there is no action explian: did you mean explain?"),
             (("check", "--al", "first/cell.toml"), "there is no option --al: did you mean --all?"),
+            (("check", "-o", "first/cell.toml"), "-o does not go with this action"),
             (("first/cell.toml",), "an action comes before the script: ./rapid_cell check first/cell.toml"),
             (("check", "first"), "first is a folder: did you mean first/cell.toml?"),
             (("check", "first/cel.toml"), "there is no file first/cel.toml: did you mean first/cell.toml?"),
             (("check", "frist/cell.toml"), "frist/cell.toml does not exist: there is no folder frist"),
             (("check",), "check takes the script of a cell: ./rapid_cell check examples/first_move/cell.toml"),
+            (("audit", "first/cell.toml"), "audit takes a history after the script: ./rapid_cell audit first/cell.toml history.txt"),
             (("check", "my", "cell.toml"), "cell.toml is one word too many: put a name with spaces in quotes"),
             (("completion", "fish"), "completion takes one of bash, zsh; ./rapid_cell --help lists the words"),
             (("build", "x"), "build takes no other word; ./rapid_cell --help lists the words"),
@@ -69,7 +71,7 @@ def try_help():
     for words in (("-h",), ("help",), ("check", "--help"), ("build", "-h")):
         compare(f"help by {words}", ask(*words), page)
     compare("help has no line too long", max(map(len, page[1].splitlines())) <= 130, True)
-    for name in ("check", "round", "run", "list", "load", "explain", "build", "watch", "lsp", "completion", "--history", "--all", "--plain", "--proved"):
+    for name in ("check", "round", "run", "list", "load", "audit", "table", "show", "cover", "explain", "build", "watch", "lsp", "completion", "--history", "--all", "--run", "--source", "--lcov", "-o", "--plain", "--proved"):
         compare(f"help has {name}", name in page[1], True)
     status, out, err = ask()
     compare("no word", (status, out, err.startswith("rapid_cell: words 0\n"), "./rapid_cell check CELL" in err), (2, "", True, True))
@@ -119,6 +121,8 @@ def try_completion():
         (["--pl"], "--plain"),
         (["check", f"{EXAMPLES}/first_move/"], str(FIRST)),
         (["completion", "z"], "zsh"),
+        (["cover", str(FIRST), f"{EXAMPLES}/first_move/"], str(FIRST)),
+        (["show", "-o", f"{EXAMPLES}/first_move/first"], f"{EXAMPLES}/first_move/first_move.mod"),
         (["--all", "check", f"{EXAMPLES}/first_move/ce"], str(FIRST)),
     )
     lines = f"source <({LAUNCHER} completion bash)\n"

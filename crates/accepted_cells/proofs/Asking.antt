@@ -1,31 +1,24 @@
 -- The tasks of an accepted cell ask only what they may, and ask something until their End.
-use Rattle.std.proofs.Common.{◌≡◌, refl, sym, subst, ℕ, ◌<◌, true, false, List, length, map, is_some, Some, slice_get}
+use Rattle.std.proofs.Common.{◌≡◌, refl, sym, subst, ℕ, ◌<◌, false, List, length, map, Some, slice_get}
 use Rattle.std.specs.Prelude.{IsTrue}
-use Rattle.std.proofs.lemmas.Bool.{and_from}
 use Rattle.rapid_model.specs.Own.{part_of, answers_of, has_ended}
 use Rattle.rapid_model.specs.Requests.{suits_actor}
 use Rattle.rapid_model.specs.ScriptData.{ScriptData}
 use Rattle.rapid_model.specs.declared.answer.Answer.{Answer}
 use Rattle.rapid_model.specs.declared.event.Event.{Event}
 use Rattle.rapid_model.specs.declared.request.Request.{Request}
-use Rattle.rapid_model.specs.declared.request.Request.TheVariants as requests
 use Rattle.typed_trees.specs.Plain.{TypedTree}
 use Rattle.cell_assembly.specs.Made.{MadeCell}
 use Rattle.cell_meaning.specs.Asking.{with_inputs}
 use Rattle.cell_meaning.specs.Histories.{IsLegal}
-use Rattle.cell_meaning.specs.MayAsk.{is_offered, may_ask}
+use Rattle.cell_meaning.specs.MayAsk.{may_ask}
 use Rattle.cell_meaning.specs.Premises.{AsksOne, TasksAskWell}
-use Rattle.rapid_meaning.specs.Answering.{Asking}
 use Rattle.rapid_meaning.specs.Asking.{tree_asks}
-use Rattle.rapid_meaning.specs.Data.{Data}
-use Rattle.rapid_meaning.specs.Runs.{asks, asked_after, state_after}
+use Rattle.rapid_meaning.specs.Runs.{asks, asked_after}
 use Rattle.rapid_meaning.proofs.Asking as one_request
-use Rattle.tree_typing.specs.Asked.{IsAsked}
 use Rattle.tree_typing.specs.OwnEvents.{AreOwn, own_events}
-use Rattle.tree_typing.specs.Setting.{Setting}
-use Rattle.tree_typing.proofs.Own.{are_own, may_be_asked, is_asking}
+use Rattle.tree_typing.proofs.Own.{are_own, may_be_asked}
 use Rattle.tree_typing.proofs.Until.{asks_on}
-use Rattle.tree_typing.proofs.Whole.{asked}
 use Rattle.accepted_cells.specs.Accepted.{IsAccepted}
 use Rattle.accepted_cells.proofs.Accepted.{accepted_right}
 use Rattle.accepted_cells.proofs.Parts.{asks_by, due_by, own_part, tree_fit, tree_own}
@@ -34,23 +27,14 @@ use Rattle.accepted_cells.proofs.Trees.{tree_there}
 pub asks_one : (trees : List TypedTree) → AsksOne (tree_asks trees)
 asks_one trees = record { one = λ actor answers r r' p q. one_request.one trees actor answers r r' p q }
 
--- the cell offers what a well typed task asks
-offered : (c : Setting) (d : Data) (request : Request) → IsAsked c d request → is_offered request ≡ true
-offered c d (requests.ZoneTie old temporary shape signal value) may = absurd may
-offered c d request may = refl
-
 -- what a task asks after its own events
 pub may_next : (script : ScriptData) (made : MadeCell) (task : ℕ) (tree : TypedTree) (mine : List Event) (request : Request) → IsAccepted script made → slice_get made.trees task ≡ Some tree
     → AreOwn task tree mine → asked_after tree (map (λ (e : Event). e.answer) mine) ≡ asks request → IsTrue (may_ask made.cell task mine request)
 may_next script made task tree mine request accepted there own due =
     let h = accepted_right script made task tree accepted there in
     let answers : List Answer = map (λ (e : Event). e.answer) mine in
-    let c : Setting = record { signals = length made.cell.signals; tree = tree } in
-    let now : (d : Data) × (state_after tree answers ≡ Asking request d) = is_asking tree answers request due in
-    let may : IsAsked c now.0 request = asked (length made.cell.signals) made.cell task tree answers request now.0 h.typed h.numbered now.1 in
     let suits : IsTrue (suits_actor made.cell task (own_events task tree answers) request) = may_be_asked made.cell task h.row tree answers request h.there h.typed h.numbered due in
-    and_from (is_offered request) (suits_actor made.cell task mine request) (offered c now.0 request may)
-    (subst (λ (events : List Event). IsTrue (suits_actor made.cell task events request)) (sym (are_own task tree mine own)) suits)
+    subst (λ (events : List Event). IsTrue (suits_actor made.cell task events request)) (sym (are_own task tree mine own)) suits
 
 may : (script : ScriptData) (made : MadeCell) (history : List Event) (task : ℕ) (request : Request) → IsAccepted script made → task < length made.cell.tasks
     → IsLegal (with_inputs (tree_asks made.trees) made.cell) made.cell history → tree_asks made.trees task (answers_of task history) request

@@ -1,7 +1,7 @@
 -- An instruction that is called correctly has what it needs.
-use Rattle.std.proofs.Common.{◌≡◌, ◌≢◌, inl, inr, ℕ, ◌+◌, ◌≤◌, Bool, true, false, not, ◌||◌, ◌==◌, List, [], ◌∷◌, ◌++◌, length, map, drop, Option, Some, None, refl, sym, ap, subst, ◌∙◌, if◌then◌else◌, nat_le, nat_lt, length-append, length-drop, arith}
+use Rattle.std.proofs.Common.{◌≡◌, ◌≢◌, inl, inr, ℕ, ◌+◌, ◌-◌, ◌≤◌, Bool, true, false, not, ◌||◌, ◌==◌, List, [], ◌∷◌, ◌++◌, length, map, drop, Option, Some, None, refl, sym, ap, subst, ◌∙◌, if◌then◌else◌, nat_le, nat_lt, length-append, length-drop, arith}
 use Rattle.std.specs.Str.{str_eq_ignore_ascii_case}
-use Rattle.std.proofs.lemmas.Bool.{and_parts, eqb-true, eqb-false, not-true, not-false, false≢true}
+use Rattle.std.proofs.lemmas.Bool.{and_parts, eqb-true, eqb-false, not-true, not-false}
 use Rattle.std.specs.Prelude.{codes}
 use Rattle.raw_trees.specs.Plain.{PlainArgs, Needed, Optional, NoArgs, MoreArgs}
 use Rattle.rapid_model.specs.declared.instruction.Instruction.{Instruction}
@@ -40,13 +40,13 @@ abbrev IsBound : Choice → Type 0
 IsBound choices.Any = ⊥
 IsBound choices.OneAtMost = Unit {0}
 IsBound choices.JustOne = Unit {0}
-IsBound choices.Never = ⊥
+IsBound choices.InsideAndOne = ⊥
 
 first_option : (kind : Choice) (name : List ℕ) (before : List (List ℕ)) → IsBound kind → is_excluded kind name before ≡ false → length before ≡ 0
 first_option choices.Any name before bound free = absurd bound
 first_option choices.OneAtMost name before bound free = eqb-true (length before) 0 (not-false (length before == 0) free)
 first_option choices.JustOne name before bound free = eqb-true (length before) 0 (not-false (length before == 0) free)
-first_option choices.Never name before bound free = absurd bound
+first_option choices.InsideAndOne name before bound free = absurd bound
 
 module _ (c : Setting) (kinds : List Kind) where
   -- an argument that is not an option
@@ -190,7 +190,9 @@ module _ (c : Setting) (kinds : List Kind) where
       let short : length given ≤ 1 = few tt in
       let other : all_in args ≢ needed_in args = eqb-false (all_in args) (needed_in args) (not-true (all_in args == needed_in args) chosen) in
       omega (arith, short, counted, other)
-  chosen_right choices.Never args given few counted chosen = absurd (false≢true chosen)
+  chosen_right choices.InsideAndOne args given few counted chosen =
+      let two : all_in args - needed_in args ≡ 2 = eqb-true (all_in args - needed_in args) 2 chosen in
+      omega (arith, counted, two)
 
   pub instruction_right : (s : Site) (suits : Suits c kinds s) (i : Instruction) (args : PlainArgs) (us : TypedArgs) → AreCallArguments s args (instruction_signature i args) us → IsInstruction c kinds i us
   instruction_right s suits i args us (are, call) =

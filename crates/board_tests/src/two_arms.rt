@@ -7,7 +7,7 @@ use signal_board::Signals;
 use std::alloc::Global;
 use std::marker::Model;
 use std::test::Fail;
-use world_zones::{ZoneFault, Zones};
+use world_zones::{TieFault, ZoneFault, Zones};
 
 /// The zones and the signals of the cell.
 #[derive(Drop)]
@@ -41,6 +41,13 @@ impl TwoArms {
             ZoneStep::Set(old, temporary, bounds, wanted) => {
                 self.set(old, temporary, bounds) == wanted
             }
+            ZoneStep::Tie(task, old, bounds, signal, wanted) => {
+                task < 2 && self.tie(task, old, bounds, signal) == wanted
+            }
+            ZoneStep::Tied(signal, wanted) => self.zones.tied(signal) == wanted,
+            ZoneStep::Output(zone, angle, wanted) => {
+                self.zones.output(0, zone, &at(angle)) == wanted
+            }
             ZoneStep::Disable(zone, wanted) => self.zones.disable(0, zone) == wanted,
             ZoneStep::Enable(zone, wanted) => self.zones.enable(0, zone) == wanted,
             ZoneStep::Free(zone, wanted) => self.zones.free(0, zone) == wanted,
@@ -57,6 +64,14 @@ impl TwoArms {
         bounds: (u32, u32),
     ) -> Result<u8, ZoneFault> {
         self.zones.set(0, old, temporary, &slab(bounds.0, bounds.1))
+    }
+
+    /// Gives the arm of a task a zone that sets a signal to 1.
+    fn tie(&mut self, task: u32, old: u8, bounds: (u32, u32), signal: u32) -> Result<u8, TieFault>
+        requires { task < 2 }
+    {
+        let shape = slab(bounds.0, bounds.1);
+        self.zones.tie(task, old, true, &shape, signal, true)
     }
 
     /// The zone that stops the arm of a task.

@@ -1,12 +1,12 @@
-//! Zones that watch arms, step by step.
+//! Zones that watch arms and zones that set outputs, step by step.
 
 use crate::two_arms::TwoArms;
 use crate::zone_step::ZoneStep;
-use crate::zone_step::ZoneStep::{Disable, Enable, Free, Go, Set, Signal};
+use crate::zone_step::ZoneStep::{Disable, Enable, Free, Go, Output, Set, Signal, Tie, Tied};
 use rapid_model::ZoneName::{Cell, Own};
 use std::test::Fail;
-use world_zones::NoZone;
 use world_zones::ZoneFault::{ZoneFull, ZoneUsed};
+use world_zones::{NoZone, TieFault};
 
 /// The tasks.
 const A: u32 = 0;
@@ -54,7 +54,8 @@ static NO_ZONES: [ZoneStep; 15] = [
 ];
 
 /// After ten zones.
-static FULL: [ZoneStep; 7] = [
+static FULL: [ZoneStep; 8] = [
+    Tie(A, 0, (10, 20), 0, Err(TieFault::ZoneFull)),
     Set(0, true, (10, 20), Err(ZoneFull)),
     Set(10, true, (10, 20), Err(ZoneUsed)),
     Set(11, true, (10, 20), Err(ZoneFull)),
@@ -90,6 +91,40 @@ static OWN: [ZoneStep; 22] = [
     Free(1, DONE),
     Go(A, (20, 25), None),
     Go(A, (30, 0), Some(Own(2))),
+];
+
+static OUTPUTS: [ZoneStep; 27] = [
+    Tied(1, false),
+    Tie(A, 0, (10, 20), 1, Ok(1)),
+    Tied(1, true),
+    Tied(0, false),
+    Output(1, 15, Some((1, true))),
+    Output(1, 10, Some((1, true))),
+    Output(1, 20, Some((1, true))),
+    Output(1, 9, Some((1, false))),
+    // It does not stop the arm.
+    Go(A, (0, 25), None),
+    // Another zone for its signal, of either arm.
+    Tie(A, 0, (60, 70), 1, Err(TieFault::Tied)),
+    Tie(B, 0, (60, 70), 1, Err(TieFault::Tied)),
+    Tie(A, 1, (60, 70), 1, Err(TieFault::ZoneUsed)),
+    Set(1, true, (60, 70), Err(ZoneUsed)),
+    // While it is disabled.
+    Disable(1, DONE),
+    Output(1, 15, None),
+    Tied(1, true),
+    Enable(1, DONE),
+    Output(1, 15, Some((1, true))),
+    // A zone that stops the arm, and none.
+    Set(0, true, (60, 70), Ok(2)),
+    Output(2, 65, None),
+    Output(0, 15, None),
+    Output(11, 15, None),
+    Free(1, DONE),
+    Tied(1, false),
+    Output(1, 15, None),
+    Tie(B, 0, (10, 20), 1, Ok(1)),
+    Tied(1, true),
 ];
 
 static OF_THE_CELL: [ZoneStep; 12] = [
@@ -139,8 +174,8 @@ fn ten_zones(rt: HostRuntime) -> Result<(), Fail> {
 }
 
 #[test]
-fn zones_that_stop(rt: HostRuntime) -> Result<(), Fail> {
-    for steps in [&OWN[..], &OF_THE_CELL[..]] {
+fn zones_that_stop_or_set(rt: HostRuntime) -> Result<(), Fail> {
+    for steps in [&OWN[..], &OUTPUTS[..], &OF_THE_CELL[..]] {
         let mut arms = TwoArms::new(rt.alloc())?;
         assert_eq!(rt; steps_done(&mut arms, steps), steps.len());
     }

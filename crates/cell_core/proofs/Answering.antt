@@ -13,8 +13,9 @@ use Rattle.sync_tasks.specs.Meetings.{MeetingsData}
 use Rattle.trap_dispatch.specs.Firing.{connected_at}
 use Rattle.trap_dispatch.specs.Tasks.{TaskData, connect_answer, look_answer}
 use Rattle.trap_dispatch.specs.Traps.{task_at}
+use Rattle.world_zones.specs.Outputs.{is_tied, tie_answer}
 use Rattle.world_zones.specs.Zones.{ZonesData, arm_at, zone_at, set_answer, is_temporary}
-use Rattle.cell_meaning.specs.Answers.{look_of, value_of, is_false, position_of, number_of, order_of, known_of, zone_number_of, temporary_of, answer_after, IsMoveAnswer, IsAnswer}
+use Rattle.cell_meaning.specs.Answers.{look_of, value_of, is_false, position_of, number_of, order_of, known_of, zone_number_of, tie_number_of, written_of, temporary_of, answer_after, IsMoveAnswer, IsAnswer}
 use Rattle.cell_meaning.specs.Changes.{changes_by_others}
 use Rattle.cell_meaning.specs.Interrupts.{due_after}
 use Rattle.cell_meaning.specs.Meetings.{meets}
@@ -39,6 +40,7 @@ answer_on_is cell history boards steps actor requests.Look keeps within =
 answer_on_is cell history boards steps actor (requests.ReadP pers path) keeps within = ap (λ (rows : List (List Value)). value_of (value_at (get_or rows pers []) path)) keeps.store
 answer_on_is cell history boards steps actor (requests.TestSet pers path) keeps within = ap (λ (rows : List (List Value)). answers.Yes (is_false (value_at (get_or rows pers []) path))) keeps.store
 answer_on_is cell history boards steps actor (requests.ReadS signal) keeps within = ap (λ (ss : List Bool). answers.Bit (get_or ss signal false)) keeps.signals
+answer_on_is cell history boards steps actor (requests.WriteS signal value) keeps within = ap (λ (zs : ZonesData). written_of (is_tied zs signal)) keeps.zones
 answer_on_is cell history boards steps actor requests.Position keeps within = ap (λ (arm : Option Joints). position_of arm) (keeps.actors actor within).arm
 answer_on_is cell history boards steps actor (requests.Connect old trap) keeps within = ap (λ (ts : List TaskData). number_of (connect_answer (task_at ts actor) old)) keeps.traps
 answer_on_is cell history boards steps actor (requests.Order number on single) keeps within = ap (λ (ts : List TaskData). order_of (connected_at (task_at ts actor).numbers number)) keeps.traps
@@ -46,6 +48,7 @@ answer_on_is cell history boards steps actor (requests.Sleep number) keeps withi
 answer_on_is cell history boards steps actor (requests.Watch number) keeps within = ap (λ (ts : List TaskData). known_of (connected_at (task_at ts actor).numbers number)) keeps.traps
 answer_on_is cell history boards steps actor (requests.Delete number) keeps within = ap (λ (ts : List TaskData). known_of (connected_at (task_at ts actor).numbers number)) keeps.traps
 answer_on_is cell history boards steps actor (requests.ZoneSet old temporary shape) keeps within = ap (λ (zs : ZonesData). zone_number_of (set_answer (arm_at zs actor) old)) keeps.zones
+answer_on_is cell history boards steps actor (requests.ZoneTie old temporary shape signal value) keeps within = ap (λ (zs : ZonesData). tie_number_of (tie_answer zs actor old signal)) keeps.zones
 answer_on_is cell history boards steps actor (requests.ZoneOn zone) keeps within = ap (λ (zs : ZonesData). temporary_of (is_temporary (zone_at (arm_at zs actor) zone))) keeps.zones
 answer_on_is cell history boards steps actor (requests.ZoneOff zone) keeps within = ap (λ (zs : ZonesData). temporary_of (is_temporary (zone_at (arm_at zs actor) zone))) keeps.zones
 answer_on_is cell history boards steps actor (requests.ZoneFree zone) keeps within = ap (λ (zs : ZonesData). temporary_of (is_temporary (zone_at (arm_at zs actor) zone))) keeps.zones

@@ -20,25 +20,25 @@ use Rattle.rapid_model.specs.declared.request.Request.TheVariants as requests
 use Rattle.rapid_model.specs.declared.task_row.TaskRow.{TaskRow}
 use Rattle.rapid_model.specs.declared.value.Value.{Value}
 use Rattle.rapid_model.specs.declared.value.Value.TheVariants as values
-use Rattle.rapid_model.specs.declared.watched.Watched.{Watched}
 use Rattle.persist_store.specs.Stores.{PersData, no_row}
 use Rattle.sync_tasks.specs.Meetings.{MeetingsData}
 use Rattle.trap_dispatch.specs.Tasks.{TaskData, after_changes}
 use Rattle.world_zones.specs.Zones.{ZonesData}
-use Rattle.cell_meaning.specs.Changes.{is_change}
+use Rattle.cell_meaning.specs.Changes.{changes_of, is_change}
 use Rattle.cell_meaning.specs.Counted.{is_counted, counted, can_be_served}
 use Rattle.cell_meaning.specs.Interrupts.{asked_with, interrupts_after}
 use Rattle.cell_meaning.specs.MayAsk.{may_ask}
 use Rattle.cell_meaning.specs.Meetings.{stands_with}
 use Rattle.cell_meaning.specs.Motion.{moved, is_given}
 use Rattle.cell_meaning.specs.Rising.{seen_with}
-use Rattle.cell_meaning.specs.Stored.{signals_with, persistents_with, with_part}
+use Rattle.cell_meaning.specs.Stored.{persistents_with, with_part}
 use Rattle.cell_meaning.specs.Zones.{zones_with}
 use Rattle.cell_meaning.proofs.Asked.{TaskMay, ScriptMay, who_may}
 use Rattle.rapid_model.proofs.Cuts.{cut_more}
 use Rattle.rapid_model.proofs.OwnEvents.{is_held-more}
 use Rattle.rapid_model.specs.Truths.{one_if}
-use Rattle.cell_meaning.proofs.MoreEvents.{part_of-own, part_of-other, end_of-more, arm_after-own, arm_after-other, count_more, counted-more, setpoints_given-own, setpoints_given-other, seen_after-own, seen_after-other, signals_after-more, persistents_after-more, stands_after-more, zones_after-more, interrupts_after-more, changes_by_others-more}
+use Rattle.cell_meaning.proofs.MoreEvents.{part_of-own, part_of-other, end_of-more, arm_after-own, arm_after-other, count_more, counted-more, setpoints_given-own, setpoints_given-other, seen_after-own, seen_after-other, persistents_after-more, stands_after-more, zones_after-more, interrupts_after-more, changes_by_others-more}
+use Rattle.cell_meaning.proofs.MoreFirings.{fired-same}
 use Rattle.cell_core.specs.Actors.{actor_with, actor_at, before}
 use Rattle.cell_core.specs.Boards.{BoardData, elements_of, put_in, store_with, change_on, boards_with}
 use Rattle.cell_core.specs.Changes.{watched_of, is_some_change}
@@ -46,7 +46,7 @@ use Rattle.cell_core.specs.Keeping.{Tells, Keeps, fates_count}
 use Rattle.cell_core.specs.Ready.{CanAnswer}
 use Rattle.cell_core.specs.Soundness.{IsSound, IsServed}
 use Rattle.cell_core.specs.declared.actor.Actor.{Actor}
-use Rattle.cell_core.proofs.Changing.{change_watched, change_counted}
+use Rattle.cell_core.proofs.Changing.{all_answered, change_counted, change_same, signals_are}
 use Rattle.cell_core.proofs.Parts.{elements_row}
 
 IsSound-more : (cell : CellData) (history : List Event) (e : Event) → IsSound cell history → IsServed cell history e → IsSound cell (history ++ e ∷ [])
@@ -219,22 +219,24 @@ pub Keeps-more : (cell : CellData) (history : List Event) (boards : BoardData) (
 Keeps-more cell history boards steps e keeps now can =
     let who = who_may cell e.actor (part_of e.actor history) e.request now.asked in
     let change = change_on cell boards e.actor e.request e.answer in
-    let watched = change_watched cell history boards steps e.actor e.request e.answer keeps can in
-    let counts = change_counted cell history boards steps e.actor e.request e.answer keeps can in
     let there : e.actor ≤ length cell.tasks = actor_within who in
+    let sound = IsSound-more cell history e keeps.sound now in
+    let asked = all_answered cell (history ++ e ∷ []) sound in
+    let watched = change_same cell history boards steps e.actor e.request e.answer keeps there asked can in
+    let counts = change_counted cell history boards steps e.actor e.request e.answer keeps there asked can in
     let own = keeps.actors e.actor there in
     let within : e.actor < length boards.actors = omega (arith, there, keeps.actor_count) in
     let numbers = counts_more cell history boards steps (is_some_change change) e.actor e.request e.answer keeps who in
     record {
       limits = keeps.limits;
       full = keeps.full;
-      sound = IsSound-more cell history e keeps.sound now;
+      sound = sound;
       pers = (sorts_with boards.store e.request e.answer ∙ keeps.pers.0, lens_with boards.store e.request e.answer ∙ keeps.pers.1);
       store = elements_with boards.store e.request e.answer ∙ ap (λ (rows : List (List Value)). persistents_with rows e.request e.answer) keeps.store ∙ sym (persistents_after-more cell history e);
-      signals = ap (λ (ss : List Bool). signals_with cell ss e.request e.answer) keeps.signals ∙ sym (signals_after-more cell history e);
+      signals = signals_are cell history boards steps e keeps there;
       meetings = ap (λ (m : MeetingsData). stands_with m e.actor e.request e.answer) keeps.meetings ∙ sym (stands_after-more cell history e);
       traps = ap (λ (ts : List TaskData). map (after_changes (watched_of change)) (asked_with ts e.actor e.request e.answer)) keeps.traps
-          ∙ ap (λ (c : List Watched). map (after_changes c) (asked_with (interrupts_after cell history) e.actor e.request e.answer)) watched ∙ sym (interrupts_after-more cell history e);
+          ∙ fired-same (watched_of change) (changes_of cell history e) watched (asked_with (interrupts_after cell history) e.actor e.request e.answer) ∙ sym (interrupts_after-more cell history e);
       zones = ap (λ (zs : ZonesData). zones_with zs e.actor e.request e.answer) keeps.zones ∙ sym (zones_after-more cell history e);
       actor_count = length-set boards.actors e.actor _ ∙ keeps.actor_count;
       actors = λ number h. subst (λ (b : Bool). Tells cell (history ++ e ∷ []) number (actor_at (set boards.actors e.actor (actor_with (actor_at boards.actors e.actor) b e.request e.answer)) number) (boards.changes + one_if b))

@@ -1,6 +1,6 @@
 -- What the boards say of one more task, what a report has of one more event, what a request leaves of the boards, and
 -- what an event makes of them.
-use Rattle.std.proofs.Common.{◌≡◌, ℕ, suc, ◌+◌, ◌<◌, ◌≤◌, Bool, List, [], ◌∷◌, ◌++◌, length, take, Some, slice_get, refl, sym, ◌∙◌, ap, subst, arith, length-set}
+use Rattle.std.proofs.Common.{◌≡◌, ℕ, suc, ◌+◌, ◌<◌, ◌≤◌, Bool, false, List, [], ◌∷◌, ◌++◌, length, map, take, Some, slice_get, slice_set, refl, sym, ◌∙◌, ap, subst, arith, length-set}
 use Rattle.std.specs.Prelude.{IsTrue, ◌&&◌, ◌||◌, not, is_some}
 use Rattle.std.specs.List.{All}
 use Rattle.std.proofs.lemmas.List.{take_all, take_more}
@@ -13,7 +13,7 @@ use Rattle.rapid_model.specs.declared.event.Event.{Event}
 use Rattle.rapid_model.specs.declared.request.Request.{Request}
 use Rattle.rapid_model.specs.declared.request.Request.TheVariants as requests
 use Rattle.rapid_model.proofs.Lists.{filter_short}
-use Rattle.trap_dispatch.specs.Tasks.{TaskData, before_all, in_first_trap}
+use Rattle.trap_dispatch.specs.Tasks.{TaskData, after_changes, before_all, in_first_trap}
 use Rattle.trap_dispatch.specs.Traps.{task_at}
 use Rattle.cell_meaning.specs.Answers.{is_enabled}
 use Rattle.cell_meaning.specs.Counted.{can_be_served}
@@ -22,8 +22,9 @@ use Rattle.cell_meaning.specs.MayAsk.{may_ask}
 use Rattle.cell_meaning.proofs.FitAnswers.{answer_fits}
 use Rattle.cell_meaning.proofs.InterruptsKept.{own_with, asked_own}
 use Rattle.cell_meaning.proofs.Lists.{written_keeps}
-use Rattle.cell_core.specs.Actors.{actor_at}
-use Rattle.cell_core.specs.Boards.{BoardData, asked_on}
+use Rattle.cell_meaning.proofs.MoreFirings.{fired-none}
+use Rattle.cell_core.specs.Actors.{actor_at, actor_with}
+use Rattle.cell_core.specs.Boards.{BoardData, asked_on, boards_with}
 use Rattle.cell_core.specs.Keeping.{Keeps}
 use Rattle.cell_core.specs.Reading.{all_have_fates, all_stand, can_go_on, fates_of, standing}
 use Rattle.cell_core.specs.Ready.{CanCount}
@@ -31,7 +32,8 @@ use Rattle.cell_core.specs.Soundness.{IsServed}
 use Rattle.cell_core.specs.Answering.{IsAnswerOn}
 use Rattle.cell_core.specs.declared.actor.Actor.{Actor}
 use Rattle.cell_core.proofs.Answering.{answer_is}
-use Rattle.cell_core.proofs.Ready.{all_answered, actor_there}
+use Rattle.cell_core.proofs.Changing.{all_answered}
+use Rattle.cell_core.proofs.Ready.{actor_there}
 
 next : (n : ℕ) → n + 1 ≡ suc n
 next n = omega arith
@@ -89,6 +91,16 @@ count_kept cell boards actor request answer can = record {
   counted = can.counted;
   changes = can.changes;
 }
+
+-- a Look fires nothing, and is counted
+pub look_counted : (cell : CellData) (boards : BoardData) (actor : ℕ) (answer : Answer) (traps : List TaskData) (actors : List Actor) (counted : ℕ) → CanCount boards actor
+    → traps ≡ asked_with boards.traps actor requests.Look answer → actors ≡ slice_set boards.actors actor (actor_with (actor_at boards.actors actor) false requests.Look answer) → counted ≡ boards.counted + 1
+    → record boards { traps = traps; actors = actors; counted = counted } ≡ boards_with cell boards (record { actor = actor; request = requests.Look; answer = answer })
+look_counted cell boards actor answer traps actors counted can is_traps is_actors is_counted =
+    let none : map (after_changes []) (asked_with boards.traps actor requests.Look answer) ≡ asked_with boards.traps actor requests.Look answer =
+    fired-none (asked_with boards.traps actor requests.Look answer) (asked_room boards.traps actor requests.Look answer can.room) in
+    let same : boards.changes + 0 ≡ boards.changes = omega arith in
+    rw (is_traps, is_actors, is_counted, none, same) refl
 
 -- a request and the answer that the boards gave it are an event that was served
 pub served_event : (cell : CellData) (history : List Event) (boards : BoardData) (steps : ℕ) (e : Event) → Keeps cell history boards steps

@@ -1,8 +1,8 @@
 -- The boards have what a request needs if an actor may ask it.
-use Rattle.std.proofs.Common.{◌≡◌, ◌⊎◌, inl, inr, ℕ, zero, suc, ◌+◌, ◌*◌, ◌<◌, ◌≤◌, ◌^◌, Bool, true, false, cond, List, [], ◌∷◌, ◌++◌, length, map, get_or, Option, None, Some, refl, sym, ◌∙◌, ap, subst, arith, length-append, length-set}
-use Rattle.std.specs.Prelude.{IsTrue, IfSome, not, ◌&&◌, ◌==◌, nat_lt, nat_le, is_some, slice_get, count_by, replicate}
+use Rattle.std.proofs.Common.{◌≡◌, ◌⊎◌, inl, inr, ℕ, zero, suc, ◌+◌, ◌-◌, ◌*◌, ◌<◌, ◌≤◌, ◌^◌, Bool, true, false, cond, List, [], ◌∷◌, ◌++◌, length, map, get_or, Option, None, Some, refl, sym, ◌∙◌, ap, subst, arith, length-append, length-set}
+use Rattle.std.specs.Prelude.{IsTrue, IfSome, not, ◌&&◌, ◌==◌, nat_lt, nat_le, is_some, slice_get, count_by, replicate, ⊤, if◌then◌else◌}
 use Rattle.std.specs.List.{All, list_all}
-use Rattle.std.proofs.lemmas.Bool.{and_parts, eq-eqb, ltb-true, false≢true}
+use Rattle.std.proofs.lemmas.Bool.{and_parts, eq-eqb, eqb-true, ltb-true, false≢true}
 use Rattle.std.proofs.lemmas.List.{get_or-map, length-replicate}
 use Rattle.std.proofs.lemmas.List.Sums.{count_by-le-length}
 use Rattle.std.proofs.lemmas.Option.{slice_get-get_or, slice_get_within, get_or_from_slice_get}
@@ -34,28 +34,29 @@ use Rattle.sync_tasks.specs.Meetings.{MeetingsData, at_start, stand_at}
 use Rattle.trap_dispatch.specs.Tasks.{TaskData, before_all}
 use Rattle.trap_dispatch.specs.Traps.{task_at}
 use Rattle.world_zones.specs.declared.cell_zone.CellZone.{CellZone}
-use Rattle.world_zones.specs.Zones.{ZonesData, no_zones, zone_of}
-use Rattle.cell_meaning.specs.MayAsk.{is_offered, may_ask}
+use Rattle.world_zones.specs.declared.own_zone.OwnZone.{OwnZone}
+use Rattle.world_zones.specs.Outputs.{output_at, ties, tying}
+use Rattle.world_zones.specs.Zones.{ZonesData, arm_at, given, no_zones, switched, with_arm, with_zone, zone_at, zone_of}
+use Rattle.cell_meaning.specs.MayAsk.{may_ask}
 use Rattle.cell_meaning.specs.Motion.{is_given}
 use Rattle.cell_meaning.specs.Meetings.{stands_with, stands_after}
-use Rattle.cell_meaning.specs.Premises.{AllAnswered}
 use Rattle.cell_meaning.specs.Stored.{persistent_after}
 use Rattle.cell_meaning.specs.Zones.{zones_with, zones_after}
-use Rattle.cell_meaning.proofs.Asked.{TaskMay, ScriptMay, who_may, asked_offered}
+use Rattle.cell_meaning.proofs.Asked.{TaskMay, ScriptMay, who_may}
+use Rattle.cell_meaning.proofs.Follow.{output_ties}
 use Rattle.cell_meaning.proofs.InterruptsKept.{tasks_kept}
 use Rattle.cell_meaning.proofs.Lists.{from_front, written_keeps}
 use Rattle.cell_meaning.proofs.MoreChanges.{length-signals_after}
 use Rattle.cell_meaning.proofs.MoreEvents.{stands_after-more, zones_after-more}
+use Rattle.cell_meaning.proofs.Numbered.{entry_at-next}
+use Rattle.cell_meaning.proofs.Ties.{tied_there}
 use Rattle.cell_meaning.proofs.ValuesKept.{values_kept, test_of}
+use Rattle.cell_meaning.proofs.ZonesTold.{arms_with}
 use Rattle.cell_core.specs.Boards.{BoardData}
 use Rattle.cell_core.specs.Keeping.{Keeps}
-use Rattle.cell_core.specs.Ready.{HasPart, CanAnswer, CanCount, CanPass}
-use Rattle.cell_core.specs.Soundness.{IsSound}
-use Rattle.cell_core.proofs.Changing.{pers_count, elements_after}
+use Rattle.cell_core.specs.Ready.{HasPart, CanAnswer, CanCount, CanPass, CanSet, OutputsThere}
+use Rattle.cell_core.proofs.Changing.{all_answered, elements_after, pers_count}
 use Rattle.cell_core.proofs.Growing.{few_events}
-
-pub all_answered : (cell : CellData) (history : List Event) → IsSound cell history → AllAnswered cell history
-all_answered cell history sound = record { might = λ before after e p. (sound.at before after e p).asked; answered = λ before after e p. (sound.at before after e p).answered }
 
 -- the arms and the zones of the cell
 record ZonesStand (cell : CellData) (zones : ZonesData) : Type 0 where
@@ -64,6 +65,7 @@ record ZonesStand (cell : CellData) (zones : ZonesData) : Type 0 where
 
 stand_with : (cell : CellData) (zones : ZonesData) (task : ℕ) (request : Request) (answer : Answer) → ZonesStand cell zones → ZonesStand cell (zones_with zones task request answer)
 stand_with cell zones task (requests.ZoneSet old temporary shape) (answers.Number number) stand = record { arms = length-set zones.arms task _ ∙ stand.arms; same = stand.same }
+stand_with cell zones task (requests.ZoneTie old temporary shape signal value) (answers.Number number) stand = record { arms = length-set zones.arms task _ ∙ stand.arms; same = stand.same }
 stand_with cell zones task (requests.ZoneOn zone) answers.Ok stand = record { arms = length-set zones.arms task _ ∙ stand.arms; same = stand.same }
 stand_with cell zones task (requests.ZoneOff zone) answers.Ok stand = record { arms = length-set zones.arms task _ ∙ stand.arms; same = stand.same }
 stand_with cell zones task (requests.ZoneFree zone) answers.Ok stand = record { arms = length-set zones.arms task _ ∙ stand.arms; same = stand.same }
@@ -85,6 +87,58 @@ zone_signals cell (row ∷ rows) all zero d lt =
 zone_signals cell (row ∷ rows) all (suc k) d lt =
     let arms : List ℕ = map (λ (row : TaskRow). row.axes) cell.tasks in
     zone_signals cell rows (and_parts (is_zone cell.signals arms row) (list_all (is_zone cell.signals arms) rows) all).1 k d (omega arith)
+
+-- each signal that a zone of an arm names exists, if there are this many
+abbrev TiesThere : ℕ → Option OwnZone → Type 0
+TiesThere count zone = (signal : ℕ) → ties signal zone ≡ true → signal < count
+
+abbrev AllThere : ZonesData → ℕ → Type 0
+AllThere zones count = (task index : ℕ) → TiesThere count (get_or (arm_at zones task) index None)
+
+at_there : (zones : ZonesData) (count : ℕ) → AllThere zones count → (task number : ℕ) → TiesThere count (zone_at (arm_at zones task) number)
+at_there zones count all task number = by (number == 0)
+  where
+    by : (b : Bool) → TiesThere count (if b then None else get_or (arm_at zones task) (number - 1) None)
+    by true signal tied = absurd (false≢true tied)
+    by false signal tied = all task (number - 1) signal tied
+
+switched_there : (count : ℕ) (on : Bool) (held : Option OwnZone) → TiesThere count held → TiesThere count (switched on held)
+switched_there count on None there = there
+switched_there count on (Some zone) there = there
+
+one_there : (zones : ZonesData) (count task number : ℕ) (zone : Option OwnZone) → AllThere zones count → TiesThere count zone → AllThere (with_arm zones task (with_zone (arm_at zones task) number zone)) count
+one_there zones count task number zone all new k =
+    written_keeps (λ (arm : List (Option OwnZone)). (index : ℕ) → TiesThere count (get_or arm index None)) zones.arms task k (with_zone (arm_at zones task) number zone) no_zones (all k)
+    (λ same index. written_keeps (TiesThere count) (arm_at zones task) (number - 1) index zone None (all task index) (λ here. new))
+
+-- so does one that a request names
+abbrev NamesThere : ℕ → Request → Type 0
+NamesThere count (requests.ZoneTie old temporary shape signal value) = signal < count
+NamesThere count _ = ⊤
+
+there_with : (zones : ZonesData) (count task : ℕ) (request : Request) (answer : Answer) → AllThere zones count → NamesThere count request → AllThere (zones_with zones task request answer) count
+there_with zones count task (requests.ZoneSet old temporary shape) (answers.Number number) all named = one_there zones count task number (given temporary shape) all (λ signal tied. absurd (false≢true tied))
+there_with zones count task (requests.ZoneTie old temporary shape signal value) (answers.Number number) all named =
+    one_there zones count task number (tying temporary shape (record { signal = signal; value = value })) all (λ other tied. subst (λ (s : ℕ). s < count) (eqb-true signal other tied) named)
+there_with zones count task (requests.ZoneOn zone) answers.Ok all named =
+    one_there zones count task zone (switched true (zone_at (arm_at zones task) zone)) all (switched_there count true (zone_at (arm_at zones task) zone) (at_there zones count all task zone))
+there_with zones count task (requests.ZoneOff zone) answers.Ok all named =
+    one_there zones count task zone (switched false (zone_at (arm_at zones task) zone)) all (switched_there count false (zone_at (arm_at zones task) zone) (at_there zones count all task zone))
+there_with zones count task (requests.ZoneFree zone) answers.Ok all named = one_there zones count task zone None all (λ signal tied. absurd (false≢true tied))
+there_with zones count task _ _ all named = all
+
+outputs_there : (zones : ZonesData) (count : ℕ) → AllThere zones count → OutputsThere zones count
+outputs_there zones count all task number at = by (output_at at (zone_at (arm_at zones task) number)) refl
+  where
+    by : (o : Option (ℕ × Bool)) → output_at at (zone_at (arm_at zones task) number) ≡ o → IfSome o (λ output. output.0 < count)
+    by None is = tt
+    by (Some output) is = at_there zones count all task number output.0 (output_ties at (zone_at (arm_at zones task) number) output is)
+
+all_there : (cell : CellData) (history : List Event) (boards : BoardData) (steps : ℕ) → Keeps cell history boards steps → AllThere boards.zones (length boards.signals)
+all_there cell history boards steps keeps =
+    subst (λ (zones : ZonesData). AllThere zones (length boards.signals)) (sym keeps.zones)
+    (subst (λ (count : ℕ). AllThere (zones_after cell history) count) (sym (ap length keeps.signals ∙ length-signals_after cell history))
+    (λ task index signal tied. tied_there cell history (all_answered cell history keeps.sound) task (suc index) signal (ap (ties signal) (entry_at-next (arm_at (zones_after cell history) task) index) ∙ tied)))
 
 -- the stands: none went on more often than there were events
 record StandsCount (cell : CellData) (stands : MeetingsData) (events : ℕ) : Type 0 where
@@ -184,55 +238,69 @@ known cell history boards steps actor keeps within = record {
   signals = ap length keeps.signals ∙ length-signals_after cell history;
 }
 
-task_ready : (cell : CellData) (history : List Event) (boards : BoardData) (steps actor : ℕ) (request : Request) → Keeps cell history boards steps → TaskMay cell actor (part_of actor history) request → IsTrue (is_offered request)
-    → Known cell history boards actor → CanAnswer cell boards actor request
-task_ready cell history boards steps actor requests.Look keeps may served know = (know.trap, know.actor_there)
-task_ready cell history boards steps actor (requests.ReadP pers path) keeps may served know =
+can_set : (cell : CellData) (history : List Event) (boards : BoardData) (steps actor : ℕ) (request : Request) → Keeps cell history boards steps → Known cell history boards actor
+    → NamesThere (length boards.signals) request → CanSet boards actor request
+can_set cell history boards steps actor request keeps know named = record {
+  actor = know.actor_there;
+  arm = know.arm;
+  after = λ answer. record {
+    arm = omega (arith, know.arm, arms_with boards.zones actor request answer);
+    outputs = outputs_there (zones_with boards.zones actor request answer) (length boards.signals)
+        (there_with boards.zones (length boards.signals) actor request answer (all_there cell history boards steps keeps) named);
+  };
+}
+
+task_ready : (cell : CellData) (history : List Event) (boards : BoardData) (steps actor : ℕ) (request : Request) → Keeps cell history boards steps → TaskMay cell actor (part_of actor history) request → Known cell history boards actor
+    → CanAnswer cell boards actor request
+task_ready cell history boards steps actor requests.Look keeps may know = (know.trap, know.actor_there)
+task_ready cell history boards steps actor (requests.ReadP pers path) keeps may know =
     let f = found cell pers (λ row. has_path row path) may.suits in
     has_part cell history boards steps pers f.row path keeps f.at f.so
-task_ready cell history boards steps actor (requests.WriteP pers path value) keeps may served know =
+task_ready cell history boards steps actor (requests.WriteP pers path value) keeps may know =
     let f = found cell pers (λ row. has_path row path && fits_part row.sort path.part value) may.suits in
     let parts = and_parts (has_path f.row path) (fits_part f.row.sort path.part value) f.so in (
       has_part cell history boards steps pers f.row path keeps f.at parts.0,
       subst (λ (r : PersData). IsTrue (fits_part r.sort path.part value)) (sym (row_is cell history boards steps pers f.row keeps f.at)) parts.1,
     )
-task_ready cell history boards steps actor (requests.TestSet pers path) keeps may served know =
+task_ready cell history boards steps actor (requests.TestSet pers path) keeps may know =
     let f = found cell pers (λ row. has_path row path && is_bool (part_sort row.sort path.part)) may.suits in
     let parts = and_parts (has_path f.row path) (is_bool (part_sort f.row.sort path.part)) f.so in (
       has_part cell history boards steps pers f.row path keeps f.at parts.0,
       subst (λ (r : PersData). part_sort r.sort path.part ≡ Some sorts.Bool) (sym (row_is cell history boards steps pers f.row keeps f.at)) (bool_there (part_sort f.row.sort path.part) parts.1),
     )
-task_ready cell history boards steps actor (requests.ReadS signal) keeps may served know = omega (arith, know.signals, ltb-true signal (length cell.signals) may.suits)
-task_ready cell history boards steps actor (requests.WriteS signal value) keeps may served know = omega (arith, know.signals, ltb-true signal (length cell.signals) may.suits)
-task_ready cell history boards steps actor requests.Position keeps may served know = know.actor_there
-task_ready cell history boards steps actor (requests.Setpoint to) keeps may served know =
+task_ready cell history boards steps actor (requests.ReadS signal) keeps may know = omega (arith, know.signals, ltb-true signal (length cell.signals) may.suits)
+task_ready cell history boards steps actor (requests.WriteS signal value) keeps may know = omega (arith, know.signals, ltb-true signal (length cell.signals) may.suits)
+task_ready cell history boards steps actor requests.Position keeps may know = know.actor_there
+task_ready cell history boards steps actor (requests.Setpoint to) keeps may know =
     let each : All (λ zone. zone.signal < length cell.signals) boards.zones.cell =
     subst (λ (zones : List CellZone). All (λ zone. zone.signal < length cell.signals) zones) (sym (ap (λ (zs : ZonesData). zs.cell) keeps.zones ∙ (zones_stand cell history).same)) (zone_signals cell cell.zones keeps.limits.zones) in
     record {
       actor = know.actor_there;
-      arm = know.arm;
+      sets = record { arm = know.arm; outputs = outputs_there boards.zones (length boards.signals) (all_there cell history boards steps keeps) };
       signals = λ k d lt. omega (arith, know.signals, each k d lt);
     }
-task_ready cell history boards steps actor (requests.Connect old trap) keeps may served know = know.trap
-task_ready cell history boards steps actor (requests.Order number on single) keeps may served know = know.trap
-task_ready cell history boards steps actor (requests.Sleep number) keeps may served know = know.trap
-task_ready cell history boards steps actor (requests.Watch number) keeps may served know = know.trap
-task_ready cell history boards steps actor (requests.Delete number) keeps may served know = know.trap
-task_ready cell history boards steps actor requests.Disable keeps may served know = know.trap
-task_ready cell history boards steps actor requests.Enable keeps may served know = know.trap
-task_ready cell history boards steps actor requests.Leave keeps may served know =
+task_ready cell history boards steps actor (requests.Connect old trap) keeps may know = know.trap
+task_ready cell history boards steps actor (requests.Order number on single) keeps may know = know.trap
+task_ready cell history boards steps actor (requests.Sleep number) keeps may know = know.trap
+task_ready cell history boards steps actor (requests.Watch number) keeps may know = know.trap
+task_ready cell history boards steps actor (requests.Delete number) keeps may know = know.trap
+task_ready cell history boards steps actor requests.Disable keeps may know = know.trap
+task_ready cell history boards steps actor requests.Enable keeps may know = know.trap
+task_ready cell history boards steps actor requests.Leave keeps may know =
     let kept = (tasks_kept cell history (all_answered cell history keeps.sound)).each actor may.within in
     let mine = part_of actor history in (
       know.trap,
       subst (λ (ts : List TaskData). IsTrue (task_at ts actor).in_trap) (sym keeps.traps)
           (in_trap_so _ (count_by (λ (e : Event). is_trap e.answer) mine) (count_by (λ (e : Event). is_leave e.request) mine) kept.begun may.suits),
     )
-task_ready cell history boards steps actor (requests.ZoneSet old temporary shape) keeps may served know = know.arm
-task_ready cell history boards steps actor (requests.ZoneTie old temporary shape signal value) keeps may served know = absurd (false≢true served)
-task_ready cell history boards steps actor (requests.ZoneOn zone) keeps may served know = know.arm
-task_ready cell history boards steps actor (requests.ZoneOff zone) keeps may served know = know.arm
-task_ready cell history boards steps actor (requests.ZoneFree zone) keeps may served know = know.arm
-task_ready cell history boards steps actor (requests.Arrive meeting tasks) keeps may served know =
+task_ready cell history boards steps actor (requests.ZoneSet old temporary shape) keeps may know = know.arm
+task_ready cell history boards steps actor (requests.ZoneTie old temporary shape signal value) keeps may know =
+    let has = ltb-true signal (length cell.signals) (and_parts (is_some may.row.arm) (nat_lt signal (length cell.signals)) may.suits).1 in
+    can_set cell history boards steps actor (requests.ZoneTie old temporary shape signal value) keeps know (omega (arith, know.signals, has))
+task_ready cell history boards steps actor (requests.ZoneOn zone) keeps may know = can_set cell history boards steps actor (requests.ZoneOn zone) keeps know tt
+task_ready cell history boards steps actor (requests.ZoneOff zone) keeps may know = know.arm
+task_ready cell history boards steps actor (requests.ZoneFree zone) keeps may know = know.arm
+task_ready cell history boards steps actor (requests.Arrive meeting tasks) keeps may know =
     let count = stands_count cell history in
     let few = few_events cell history boards steps keeps in
     let there = ltb-true meeting (length cell.meetings) (and_parts (nat_lt meeting (length cell.meetings)) (nat_lt tasks (2 ^ length cell.tasks)) may.suits).0 in
@@ -242,11 +310,11 @@ task_ready cell history boards steps actor (requests.Arrive meeting tasks) keeps
       few = subst (λ (m : MeetingsData). (stand_at m actor meeting).passed < 2 ^ 31) (sym keeps.meetings)
           (omega (arith, few, keeps.limits.few_steps, keeps.limits.few_tasks, keeps.limits.few_inputs, count.few (actor * (stands_after cell history).meetings + meeting)));
     }
-task_ready cell history boards steps actor (requests.Input index) keeps may served know = absurd (false≢true may.suits)
-task_ready cell history boards steps actor requests.Rise keeps may served know = tt
-task_ready cell history boards steps actor (requests.Hold seen) keeps may served know = tt
-task_ready cell history boards steps actor (requests.Say text tail) keeps may served know = tt
-task_ready cell history boards steps actor (requests.End fate) keeps may served know = tt
+task_ready cell history boards steps actor (requests.Input index) keeps may know = absurd (false≢true may.suits)
+task_ready cell history boards steps actor requests.Rise keeps may know = tt
+task_ready cell history boards steps actor (requests.Hold seen) keeps may know = tt
+task_ready cell history boards steps actor (requests.Say text tail) keeps may know = tt
+task_ready cell history boards steps actor (requests.End fate) keeps may know = tt
 
 -- a row of the input script
 abbrev no_input : InputRow
@@ -309,7 +377,7 @@ pub ready : (cell : CellData) (history : List Event) (boards : BoardData) (steps
 ready cell history boards steps actor request keeps may = by (who_may cell actor (part_of actor history) request may)
   where
     by : TaskMay cell actor (part_of actor history) request ⊎ ScriptMay cell actor (part_of actor history) request → CanAnswer cell boards actor request
-    by (inl task) = task_ready cell history boards steps actor request keeps task (asked_offered cell actor (part_of actor history) request may) (known cell history boards steps actor keeps task.within)
+    by (inl task) = task_ready cell history boards steps actor request keeps task (known cell history boards steps actor keeps task.within)
     by (inr script) = script_ready cell history boards steps actor request keeps script
 
 -- an actor that may ask something exists

@@ -10,9 +10,10 @@ use Rattle.rapid_model.specs.declared.zone_name.ZoneName.{ZoneName}
 use Rattle.trap_dispatch.specs.Firing.{connected_at}
 use Rattle.trap_dispatch.specs.Tasks.{connect_answer, look_answer}
 use Rattle.trap_dispatch.specs.Traps.{task_at}
+use Rattle.world_zones.specs.Outputs.{is_tied, tie_answer}
 use Rattle.world_zones.specs.Touched.{IsTouched, IsFirstTouched}
 use Rattle.world_zones.specs.Zones.{ZonesData, arm_at, zone_at, set_answer, is_temporary}
-use Rattle.cell_meaning.specs.Answers.{look_of, value_of, is_false, position_of, number_of, order_of, known_of, zone_number_of, temporary_of}
+use Rattle.cell_meaning.specs.Answers.{look_of, value_of, is_false, position_of, number_of, order_of, known_of, zone_number_of, tie_number_of, written_of, temporary_of}
 use Rattle.cell_meaning.specs.Meetings.{meets}
 use Rattle.cell_meaning.specs.Stored.{value_at}
 use Rattle.cell_core.specs.Actors.{actor_at}
@@ -29,6 +30,7 @@ answer_on boards actor requests.Look = look_of (look_answer (task_at boards.trap
 answer_on boards actor (requests.ReadP pers path) = value_of (value_at (elements_at boards.store pers) path)
 answer_on boards actor (requests.TestSet pers path) = answers.Yes (is_false (value_at (elements_at boards.store pers) path))
 answer_on boards actor (requests.ReadS signal) = answers.Bit (slice_index_or boards.signals signal false)
+answer_on boards actor (requests.WriteS signal value) = written_of (is_tied boards.zones signal)
 answer_on boards actor requests.Position = position_of (actor_at boards.actors actor).arm
 answer_on boards actor (requests.Connect old trap) = number_of (connect_answer (task_at boards.traps actor) old)
 answer_on boards actor (requests.Order number on single) = order_of (connected_at (task_at boards.traps actor).numbers number)
@@ -36,6 +38,7 @@ answer_on boards actor (requests.Sleep number) = known_of (connected_at (task_at
 answer_on boards actor (requests.Watch number) = known_of (connected_at (task_at boards.traps actor).numbers number)
 answer_on boards actor (requests.Delete number) = known_of (connected_at (task_at boards.traps actor).numbers number)
 answer_on boards actor (requests.ZoneSet old temporary shape) = zone_number_of (set_answer (arm_at boards.zones actor) old)
+answer_on boards actor (requests.ZoneTie old temporary shape signal value) = tie_number_of (tie_answer boards.zones actor old signal)
 answer_on boards actor (requests.ZoneOn zone) = temporary_of (is_temporary (zone_at (arm_at boards.zones actor) zone))
 answer_on boards actor (requests.ZoneOff zone) = temporary_of (is_temporary (zone_at (arm_at boards.zones actor) zone))
 answer_on boards actor (requests.ZoneFree zone) = temporary_of (is_temporary (zone_at (arm_at boards.zones actor) zone))

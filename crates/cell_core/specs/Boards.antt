@@ -1,12 +1,13 @@
 -- What a core reads off its boards instead of the whole history, and how one event changes it.
-use Rattle.std.specs.Prelude.{ℕ, ◌+◌, Bool, true, List, [], ◌∷◌, ◌++◌, length, map, replicate, None, slice_get, slice_index_or, slice_set}
+use Rattle.std.specs.Prelude.{ℕ, ◌+◌, Bool, true, List, [], ◌∷◌, ◌++◌, length, map, replicate, Option, None, option_map, slice_get, slice_index_or, slice_set}
+use Rattle.rapid_num.specs.declared.joints.Joints.{Joints}
 use Rattle.rapid_model.specs.CellData.{CellData}
 use Rattle.rapid_model.specs.declared.answer.Answer.{Answer}
 use Rattle.rapid_model.specs.declared.answer.Answer.TheVariants as answers
 use Rattle.rapid_model.specs.declared.event.Event.{Event}
 use Rattle.rapid_model.specs.declared.path.Path.{Path}
 use Rattle.rapid_model.specs.declared.request.Request.{Request}
-use Rattle.rapid_model.specs.declared.request.Request.TheVariants.{WriteP, TestSet, WriteS, Input, Arrive}
+use Rattle.rapid_model.specs.declared.request.Request.TheVariants.{WriteP, TestSet, WriteS, Setpoint, Input, Arrive}
 use Rattle.rapid_model.specs.declared.task_row.TaskRow.{TaskRow}
 use Rattle.rapid_model.specs.declared.value.Value.{Value}
 use Rattle.rapid_model.specs.declared.value.Value.TheVariants as values
@@ -14,17 +15,17 @@ use Rattle.rapid_model.specs.Truths.{one_if}
 use Rattle.persist_store.specs.Stores.{PersData, first_row, row_at}
 use Rattle.sync_tasks.specs.Meetings.{MeetingsData, stand_at, before_all as no_stands}
 use Rattle.trap_dispatch.specs.Tasks.{TaskData, after_changes, before_all as no_interrupts}
-use Rattle.world_zones.specs.Zones.{ZonesData, before_all as no_own_zones}
+use Rattle.world_zones.specs.declared.own_zone.OwnZone.{OwnZone}
+use Rattle.world_zones.specs.Zones.{ZonesData, arm_at, before_all as no_own_zones}
 use Rattle.cell_meaning.specs.Counted.{is_counted}
 use Rattle.cell_meaning.specs.Interrupts.{asked_with}
 use Rattle.cell_meaning.specs.Meetings.{stands_with}
 use Rattle.cell_meaning.specs.Stored.{signals_with, with_part}
 use Rattle.cell_meaning.specs.Zones.{zones_with}
 use Rattle.cell_core.specs.Actors.{before, actor_with, actor_at}
-use Rattle.cell_core.specs.Changes.{watched_of, is_some_change, signal_change, input_change, pers_change, arrival_change}
+use Rattle.cell_core.specs.Changes.{watched_of, is_some_change, signal_change, input_change, pers_change, arrival_change, set_change}
 use Rattle.cell_core.specs.declared.actor.Actor.{Actor}
 use Rattle.cell_core.specs.declared.change.Change.{Change}
-use Rattle.cell_core.specs.declared.change.Change.TheVariants as changes
 
 -- The persistents, the signals, the meetings, the interrupts of each task, the zones, what each actor's own events
 -- amount to (the tasks in script order, then the input script), the number of counted events, and the number of
@@ -73,11 +74,23 @@ store_with rows (WriteP pers path value) answers.Ok = put_in rows pers path valu
 store_with rows (TestSet pers path) (answers.Yes true) = put_in rows pers path (values.Bool true)
 store_with rows _ _ = rows
 
+-- where a request and its answer take an arm
+abbrev pub arm_moved : Option Joints → Request → Answer → Option Joints
+arm_moved arm (Setpoint to) answers.Given = option_map (λ position. to) arm
+arm_moved arm _ _ = arm
+
+-- the zones of an actor's arm, and the position of the arm, after a request and its answer
+abbrev pub zones_on : BoardData → ℕ → Request → Answer → List (Option OwnZone)
+zones_on boards actor request answer = arm_at (zones_with boards.zones actor request answer) actor
+
+abbrev pub arm_on : BoardData → ℕ → Request → Answer → Option Joints
+arm_on boards actor request answer = arm_moved (actor_at boards.actors actor).arm request answer
+
 -- the boards after a request and its answer, before the change fires interrupts and the event is counted
 abbrev pub asked_on : CellData → BoardData → ℕ → Request → Answer → BoardData
 asked_on cell boards actor request answer = record {
   store = store_with boards.store request answer;
-  signals = signals_with cell boards.signals request answer;
+  signals = signals_with cell (zones_on boards actor request answer) (arm_on boards actor request answer) boards.signals request answer;
   meetings = stands_with boards.meetings actor request answer;
   traps = asked_with boards.traps actor request answer;
   zones = zones_with boards.zones actor request answer;
@@ -93,7 +106,7 @@ change_on cell boards actor (Input index) answers.Ok = input_change boards.signa
 change_on cell boards actor (WriteP pers path value) answers.Ok = pers_change boards.store pers path value
 change_on cell boards actor (TestSet pers path) (answers.Yes true) = pers_change boards.store pers path (values.Bool true)
 change_on cell boards actor (Arrive meeting tasks) _ = arrival_change (stand_at boards.meetings actor meeting).waits
-change_on cell boards actor _ _ = changes.Nothing
+change_on cell boards actor request answer = set_change boards.signals (zones_on boards actor request answer) (arm_on boards actor request answer) request answer
 
 -- the boards after the change of an event has fired interrupts and the event is counted
 abbrev pub tallied : BoardData → ℕ → Request → Answer → Change → BoardData

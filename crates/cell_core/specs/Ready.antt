@@ -1,8 +1,10 @@
 -- What the boards must have for a request.
 use Rattle.std.specs.Prelude.{◌≡◌, ℕ, ◌<◌, ◌≤◌, ◌^◌, List, length, Some, IfSome, All, is_some, slice_get, IsTrue}
 use Rattle.rapid_limits.specs.declared.TheConstants.{LONGEST_QUEUE}
+use Rattle.rapid_num.specs.declared.joints.Joints.{Joints}
 use Rattle.rapid_model.specs.CellData.{CellData}
 use Rattle.rapid_model.specs.Paths.{fits_part, has_element, part_sort}
+use Rattle.rapid_model.specs.declared.answer.Answer.{Answer}
 use Rattle.rapid_model.specs.declared.input_row.InputRow.{InputRow}
 use Rattle.rapid_model.specs.declared.path.Path.{Path}
 use Rattle.rapid_model.specs.declared.request.Request.{Request}
@@ -11,6 +13,9 @@ use Rattle.rapid_model.specs.declared.sort.Sort.TheVariants as sorts
 use Rattle.persist_store.specs.Stores.{PersData, IsKept, row_at}
 use Rattle.sync_tasks.specs.Meetings.{MeetingsData, stand_at}
 use Rattle.trap_dispatch.specs.Traps.{task_at}
+use Rattle.world_zones.specs.Outputs.{output_at}
+use Rattle.world_zones.specs.Zones.{ZonesData, arm_at, zone_at}
+use Rattle.cell_meaning.specs.Zones.{zones_with}
 use Rattle.cell_core.specs.Actors.{actor_at}
 use Rattle.cell_core.specs.Boards.{BoardData}
 use Rattle.cell_core.specs.declared.actor.Actor.{Actor}
@@ -28,10 +33,25 @@ pub record CanArrive (meetings : MeetingsData) (task meeting : ℕ) : Type 0 whe
   pub meeting_there : meeting < meetings.meetings
   pub few : (stand_at meetings task meeting).passed < 2 ^ 31
 
--- the task and its arm's zones exist, and so does each signal that a zone of the cell names
-pub record CanMove (boards : BoardData) (task : ℕ) : Type 0 where
+-- each signal that a zone of an arm sets exists, if there are this many
+abbrev pub OutputsThere : ZonesData → ℕ → Type 0
+OutputsThere zones signals = (task number : ℕ) (at : Joints) → IfSome (output_at at (zone_at (arm_at zones task) number)) (λ output. output.0 < signals)
+
+-- the task's arm has zones, and each signal that a zone of an arm sets exists, if there are this many
+pub record HasOutputs (zones : ZonesData) (task signals : ℕ) : Type 0 where
+  pub arm : task < length zones.arms
+  pub outputs : OutputsThere zones signals
+
+-- the task exists; its arm has zones, also after the request and whatever its answer, and the signals that they set exist
+pub record CanSet (boards : BoardData) (task : ℕ) (request : Request) : Type 0 where
   pub actor : task < length boards.actors
   pub arm : task < length boards.zones.arms
+  pub after : (answer : Answer) → HasOutputs (zones_with boards.zones task request answer) task (length boards.signals)
+
+-- the task exists, its arm has zones, and each signal exists that one of them sets or a zone of the cell names
+pub record CanMove (boards : BoardData) (task : ℕ) : Type 0 where
+  pub actor : task < length boards.actors
+  pub sets : HasOutputs boards.zones task (length boards.signals)
   pub signals : All (λ zone. zone.signal < length boards.signals) boards.zones.cell
 
 -- the step of the input script and its signal exist
@@ -58,8 +78,8 @@ CanAnswer cell boards actor requests.Disable = actor < length boards.traps
 CanAnswer cell boards actor requests.Enable = actor < length boards.traps
 CanAnswer cell boards actor requests.Leave = (actor < length boards.traps) × IsTrue (task_at boards.traps actor).in_trap
 CanAnswer cell boards actor (requests.ZoneSet old temporary shape) = actor < length boards.zones.arms
-CanAnswer cell boards actor (requests.ZoneTie old temporary shape signal value) = ⊥
-CanAnswer cell boards actor (requests.ZoneOn zone) = actor < length boards.zones.arms
+CanAnswer cell boards actor (requests.ZoneTie old temporary shape signal value) = CanSet boards actor (requests.ZoneTie old temporary shape signal value)
+CanAnswer cell boards actor (requests.ZoneOn zone) = CanSet boards actor (requests.ZoneOn zone)
 CanAnswer cell boards actor (requests.ZoneOff zone) = actor < length boards.zones.arms
 CanAnswer cell boards actor (requests.ZoneFree zone) = actor < length boards.zones.arms
 CanAnswer cell boards actor (requests.Arrive meeting tasks) = CanArrive boards.meetings actor meeting

@@ -1,7 +1,8 @@
-ghost use Rattle.std.specs.Prelude.{◌≡◌, ◌+◌, ◌<◌, ◌^◌, option_map};
+ghost use Rattle.std.specs.Prelude.{◌≡◌, ◌+◌, ◌<◌, ◌^◌, false, option_map};
 ghost use Rattle.std.specs.Option.{option_or};
 ghost use Rattle.rapid_model.specs.Own.{fate_of, is_hold, is_leave, is_trap};
 ghost use Rattle.rapid_model.specs.Truths.{one_if};
+ghost use Rattle.rapid_model.specs.declared.request.Request.TheVariants as requests;
 ghost use Rattle.cell_meaning.specs.Motion.{is_given, moved};
 ghost use Rattle.cell_meaning.specs.Rising.{seen_with};
 ghost use Rattle.cell_core.specs.Actors.{actor_with, before};
@@ -58,6 +59,16 @@ impl Actor {
         self.left = one_more(self.left, is_leave(request));
         self.events += 1;
         self.made = one_more(self.made, changes);
+    }
+
+    /// Counts one more event of the actor: a Look, which changes nothing that tasks wait for.
+    pub(crate) fn count_look(&mut self, answer: &Answer)
+        requires { IsFew self.old }
+        ensures { self.new ≡ actor_with self.old false requests.Look answer.now }
+    {
+        self.held = false;
+        self.begun = one_more(self.begun, is_trap(answer));
+        self.events += 1;
     }
 }
 

@@ -1,25 +1,28 @@
-ghost use Rattle.std.specs.Prelude.{◌≡◌, ◌≤◌, ◌<◌, ◌||◌, ◌&&◌, not, nat_le, length, false, Some, IfSome, is_some, slice_index_or};
+ghost use Rattle.std.specs.Prelude.{◌≡◌, ◌≤◌, ◌<◌, ◌||◌, ◌&&◌, ℕ, not, nat_le, length, false, Some, IfSome, is_some, slice_index_or};
+ghost use Rattle.rapid_model.specs.CellData.{CellData};
 ghost use Rattle.rapid_model.specs.Limits.{holds_where_there};
 ghost use Rattle.rapid_model.specs.Truths.{same_truth};
+ghost use Rattle.rapid_model.specs.declared.request.Request.TheVariants as requests;
 ghost use Rattle.cell_meaning.specs.Counted.{is_counted};
 ghost use Rattle.cell_meaning.specs.Stored.{value_at};
 ghost use Rattle.cell_core.specs.Actors.{actor_at};
 ghost use Rattle.cell_core.specs.Boards.{boards_of, boards_with, elements_at, tallied};
 ghost use Rattle.cell_core.specs.Reading.{all_stand, all_have_fates, can_go_on, is_passed};
-ghost use Rattle.cell_core.specs.Ready.{CanAnswer, CanCount, CanPass, HasPart};
-ghost use Rattle.cell_core.specs.Answering.{Answers, IsAnswerOn, made_by_others};
+ghost use Rattle.cell_core.specs.Ready.{CanAnswer, CanCount, CanFeed, CanPass, CanSet, HasPart};
+ghost use Rattle.cell_core.specs.Answering.{Answers, IsAnswerOn, answer_on, made_by_others};
 
 use crate::actor::{Actor, one_more};
 use crate::change::Change;
 use crate::inputs::feed;
 use crate::meetings::arrive;
 use crate::motion::{go, position_of};
-use crate::outcome::Outcome;
+use crate::outcome::{Outcome, done, unchanged};
 use crate::starting::actors_of;
 use crate::values::{read, set_signal, test_set, value_of, write};
-use crate::{interrupts, zones};
+use crate::{interrupts, outputs, zones};
 use persist_store::Store;
 use rapid_model::{Answer, Cell, InputRow, Path, Request, Value};
+use rapid_num::Shape;
 use signal_board::Signals;
 use std::alloc::Global;
 use std::marker::Model;
@@ -79,8 +82,35 @@ impl Boards {
         ensures answer { IsAnswerOn self.old actor request.now result }
         ensures boards { self.new ≡ boards_with cell.now self.old (record { actor = actor; request = request.now; answer = result }) }
     {
+        match request {
+            Request::Look => self.look(actor),
+            _ => self.take_other(cell, actor, request),
+        }
+    }
+
+    /// Answers a Look, which changes nothing that tasks wait for, and counts the two as one event.
+    fn look(&mut self, actor: u32) -> Answer
+        requires traps { actor < length self.old.traps }
+        requires few { CanCount self.old actor }
+        ensures answer { result ≡ answer_on self.old actor requests.Look }
+        ensures boards { (cell : CellData) → self.new ≡ boards_with cell self.old (record { actor = actor; request = requests.Look; answer = result }) }
+    {
+        let seen = self.made_by_others(actor);
+        let answer = interrupts::look(&mut self.traps, actor, seen);
+        self.actors[actor as usize].count_look(&answer);
+        self.counted += 1;
+        answer
+    }
+
+    /// Answers a request of an actor, and counts the two as one event. The boards have what the request needs.
+    fn take_other(&mut self, cell: &Cell, actor: u32, request: &Request) -> Answer
+        requires ready { CanAnswer cell.now self.old actor request.now }
+        requires few { CanCount self.old actor }
+        ensures answer { IsAnswerOn self.old actor request.now result }
+        ensures boards { self.new ≡ boards_with cell.now self.old (record { actor = actor; request = request.now; answer = result }) }
+    {
         let Outcome { answer, change } = self.answer(cell, actor, request);
-        self.tally(actor, request, &answer, change);
+        self.tally(actor, request, &answer, &change);
         answer
     }
 
@@ -100,6 +130,7 @@ impl Boards {
             }
             Request::TestSet { pers, path } => test_set(&mut self.store, *pers, path),
             Request::ReadS { signal } => unchanged(Answer::Bit(self.signals.get(*signal))),
+            Request::WriteS { signal, .. } if self.zones.tied(*signal) => unchanged(Answer::Tied),
             Request::WriteS { signal, value } => done(set_signal(
                 &mut self.signals,
                 *signal,
@@ -108,7 +139,7 @@ impl Boards {
             Request::Position => unchanged(position_of(&self.actors[actor as usize].arm)),
             Request::Setpoint { to } => {
                 let arm = &self.actors[actor as usize].arm;
-                unchanged(go(&self.zones, &self.signals, actor, arm, to))
+                go(&self.zones, &mut self.signals, actor, arm, to)
             }
             Request::Connect { old, trap } => {
                 unchanged(interrupts::connect(&mut self.traps, actor, *old, *trap))
@@ -139,7 +170,14 @@ impl Boards {
                 temporary,
                 shape,
             } => unchanged(zones::set(&mut self.zones, actor, *old, *temporary, shape)),
-            Request::ZoneOn { zone } => unchanged(zones::switch_on(&mut self.zones, actor, *zone)),
+            Request::ZoneTie {
+                old,
+                temporary,
+                shape,
+                signal,
+                value,
+            } => self.tie(actor, *old, *temporary, shape, *signal, *value),
+            Request::ZoneOn { zone } => self.switch_on(actor, *zone),
             Request::ZoneOff { zone } => unchanged(zones::switch_off(
                 &mut self.zones,
                 actor,
@@ -152,22 +190,53 @@ impl Boards {
                 *meeting,
                 *tasks,
             ),
-            Request::Input { index } => {
-                let row = cell.inputs().as_slice()[*index as usize];
-                done(feed(&mut self.signals, &row))
-            }
-            Request::ZoneTie { .. }
-            | Request::Hold { .. }
-            | Request::Rise
-            | Request::Say { .. }
-            | Request::End { .. } => unchanged(Answer::Ok),
+            Request::Input { index } => self.feed(cell, *index),
+            Request::Hold { .. } | Request::Rise | Request::Say { .. } | Request::End { .. } =>
+                unchanged(Answer::Ok),
         }
     }
 
+    /// Gives the task's arm a zone that sets a signal, and sets it.
+    fn tie(
+        &mut self,
+        actor: u32,
+        old: u8,
+        temporary: bool,
+        shape: &Shape,
+        signal: u32,
+        value: bool,
+    ) -> Outcome
+        requires { CanSet self.old actor (requests.ZoneTie old temporary shape.now signal value) }
+        ensures { (cell : CellData) → Answers cell self.old actor (requests.ZoneTie old temporary shape.now signal value) result self.new }
+    {
+        let answer = zones::tie(&mut self.zones, actor, old, temporary, shape, signal, value);
+        let arm = &self.actors[actor as usize].arm;
+        outputs::given(&mut self.signals, &self.zones, actor, arm, answer)
+    }
+
+    /// Switches a temporary zone on, which sets its signal if it has one.
+    fn switch_on(&mut self, actor: u32, zone: u8) -> Outcome
+        requires { CanSet self.old actor (requests.ZoneOn zone) }
+        ensures { (cell : CellData) → Answers cell self.old actor (requests.ZoneOn zone) result self.new }
+    {
+        let answer = zones::switch_on(&mut self.zones, actor, zone);
+        let arm = &self.actors[actor as usize].arm;
+        outputs::switched_on(&mut self.signals, &self.zones, actor, arm, zone, answer)
+    }
+
+    /// Does a step of the input script.
+    fn feed(&mut self, cell: &Cell, index: u32) -> Outcome
+        requires { CanFeed cell.now self.old index }
+        ensures { (actor : ℕ) → Answers cell.now self.old actor (requests.Input index) result self.new }
+    {
+        let row = cell.inputs().as_slice()[index as usize];
+        done(feed(&mut self.signals, &row))
+    }
+
     /// Fires the interrupts that are ordered on what an event changed, and counts the event.
-    fn tally(&mut self, actor: u32, request: &Request, answer: &Answer, change: Change)
+    fn tally(&mut self, actor: u32, request: &Request, answer: &Answer, change: &Change)
         requires { CanCount self.old actor }
-        ensures { self.new ≡ tallied self.old actor request.now answer.now change }
+        ensures { self.new ≡ tallied self.old actor request.now answer.now change.now }
     {
         interrupts::fire(&mut self.traps, change);
         let changes = change.is_some();
@@ -296,28 +365,6 @@ impl Boards {
             Some(count) => count <= self.counted,
             None => true,
         }
-    }
-}
-
-/// An answer to a request that changed nothing that tasks wait for.
-fn unchanged(answer: Answer) -> Outcome
-    ensures answer { result.answer ≡ answer }
-    ensures change { result.change ≡ Change.Nothing }
-{
-    Outcome {
-        answer,
-        change: Change::Nothing,
-    }
-}
-
-/// The outcome of a request that is done and changed this.
-fn done(change: Change) -> Outcome
-    ensures answer { result.answer ≡ Answer.Ok }
-    ensures change { result.change ≡ change }
-{
-    Outcome {
-        answer: Answer::Ok,
-        change,
     }
 }
 

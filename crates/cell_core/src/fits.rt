@@ -5,15 +5,13 @@ ghost use Rattle.rapid_model.specs.Own.{is_rise, is_trapped};
 ghost use Rattle.rapid_model.specs.Requests.{can_watch, goes_with, has_signal, may_tell, of_pers, suits_inputs, suits_task, is_bool};
 ghost use Rattle.rapid_model.specs.Paths.{fits_part as fits_the_part, has_path as has_the_path, part_sort};
 ghost use Rattle.rapid_model.specs.declared.event.Event.{Event};
-ghost use Rattle.cell_meaning.specs.MayAsk.{is_offered};
 
 use crate::paths::{fits_part, has_path, is_bool_part};
 use rapid_model::{Cell, Fate, Path, PersCell, Request, TaskRow, Value, Watched};
 
-/// Whether the cell offers the request, and the request suits a task of this row. `trapped`: whether the task is in a
-/// trap.
+/// Whether the request suits a task of this row. `trapped`: whether the task is in a trap.
 pub(crate) fn allows(cell: &Cell, row: &TaskRow, trapped: bool, request: &Request) -> bool
-    ensures { (mine : List Event) → trapped ≡ is_trapped mine → result ≡ (is_offered request.now && suits_task cell.now row.now mine request.now) }
+    ensures { (mine : List Event) → trapped ≡ is_trapped mine → result ≡ suits_task cell.now row.now mine request.now }
 {
     match request {
         Request::ReadP { pers, path } => may_read(cell, *pers, path),
@@ -26,7 +24,7 @@ pub(crate) fn allows(cell: &Cell, row: &TaskRow, trapped: bool, request: &Reques
         Request::Order { on, .. } => can_watch(cell, *on),
         Request::Leave => trapped,
         Request::ZoneSet { .. } => row.arm.is_some(),
-        Request::ZoneTie { .. } => false,
+        Request::ZoneTie { signal, .. } => row.arm.is_some() && has_signal(cell, *signal),
         Request::ZoneOn { .. } => row.arm.is_some(),
         Request::ZoneOff { .. } => row.arm.is_some(),
         Request::ZoneFree { .. } => row.arm.is_some(),

@@ -129,16 +129,17 @@ pub(crate) fn leave(traps: &mut Traps, actor: u32) -> Answer
 }
 
 /// Fires the interrupts of all tasks that are ordered on what changed. Each queue has room.
-pub(crate) fn fire(traps: &mut Traps, change: Change)
+pub(crate) fn fire(traps: &mut Traps, change: &Change)
     requires { All (λ task. length task.queue ≤ LONGEST_QUEUE) traps.old }
-    ensures { traps.new ≡ map (after_changes (watched_of change)) traps.old }
+    ensures { traps.new ≡ map (after_changes (watched_of change.now)) traps.old }
 {
     match change {
         Change::Nothing => {}
         Change::Arrival => {}
         Change::Value(on) => {
-            let changes = [on];
+            let changes = [*on];
             traps.fired(&changes);
         }
+        Change::Outputs(changed) => traps.fired(changed.as_slice()),
     }
 }

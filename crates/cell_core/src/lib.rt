@@ -4,12 +4,14 @@
 mod actor;
 mod boards;
 mod change;
+mod changed;
 mod fits;
 mod inputs;
 mod interrupts;
 mod meetings;
 mod motion;
 mod outcome;
+mod outputs;
 mod paths;
 mod report;
 mod served;

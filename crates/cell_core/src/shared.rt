@@ -139,9 +139,8 @@ impl Core {
     }
 
     /// Whether the actor may ask this now. The input script may ask for its next step only. A task that has not ended
-    /// may ask whatever suits the cell and its own state (held, in a trap, with or without an arm), except a ZoneTie,
-    /// which no cell offers, or an Input. No crate here calls it; a caller of `serve` that cannot know what its actor
-    /// may ask tests with it.
+    /// may ask whatever suits the cell and its own state (held, in a trap, with or without an arm), except an Input. No
+    /// crate here calls it; a caller of `serve` that cannot know what its actor may ask tests with it.
     pub fn fits(&self, actor: u32, request: &Request) -> bool
         ensures { result ≡ may_ask self.now.cell actor (part_of actor self.now.history) request.now }
     {
@@ -158,8 +157,7 @@ impl Core {
         }
     }
 
-    /// Whether a held task can go on: others have made more changes than its last Hold had seen, or a trap is due. No
-    /// other crate calls it; it is for tools that show why a task waits.
+    /// Whether a held task can go on: others have made more changes than its last Hold had seen, or a trap is due.
     pub fn can_rise(&self, task: u32) -> bool
         requires { task < length self.now.cell.tasks }
         ensures { result ≡ can_rise self.now.cell self.now.history task }
@@ -168,8 +166,7 @@ impl Core {
     }
 
     /// Whether the next step of the input script is open: the step exists, its gate holds, a task has not ended, and
-    /// steps of the run are left (docs/CELL_SCRIPT.md, keys of an input). No other crate calls it; it is for tools that
-    /// show why the input script waits.
+    /// steps of the run are left (docs/CELL_SCRIPT.md, keys of an input).
     pub fn can_feed(&self) -> bool
         ensures { result ≡ is_open self.now.cell self.now.history (inputs_done self.now.cell self.now.history) }
     {
@@ -308,6 +305,22 @@ impl Core {
         ensures { value_at (persistent_after self.now.cell self.now.history pers) path.now ≡ Some result }
     {
         self.boards.value(pers, path)
+    }
+
+    /// The cell, without its history.
+    pub fn into_cell(self) -> Cell
+        ensures { result ≡ self.cell }
+    {
+        let Core {
+            cell,
+            steps: _,
+            tasks: _,
+            pages: _,
+            boards: _,
+            report: _,
+            fates: _,
+        } = self;
+        cell
     }
 
     /// The events, oldest first, and how each task stands, in script order. Allocates nothing.

@@ -1,14 +1,15 @@
-//! Requests to the zones of a task's arm (RAPID Instructions: WZLimSup, WZDisable, WZEnable, WZFree).
+//! Requests to the zones of a task's arm (RAPID Instructions: WZLimSup, WZDOSet, WZDisable, WZEnable, WZFree).
 
 ghost use Rattle.std.specs.Prelude.{◌≡◌, ◌<◌, length};
 ghost use Rattle.rapid_model.specs.declared.request.Request.TheVariants as requests;
+ghost use Rattle.world_zones.specs.Outputs.{tie_answer};
 ghost use Rattle.world_zones.specs.Zones.{arm_at, is_temporary, set_answer, zone_at};
-ghost use Rattle.cell_meaning.specs.Answers.{temporary_of, zone_number_of};
+ghost use Rattle.cell_meaning.specs.Answers.{temporary_of, tie_number_of, zone_number_of};
 ghost use Rattle.cell_meaning.specs.Zones.{zones_with};
 
 use rapid_model::Answer;
 use rapid_num::Shape;
-use world_zones::{NoZone, ZoneFault, Zones};
+use world_zones::{NoZone, TieFault, ZoneFault, Zones};
 
 /// Gives the task's arm a zone.
 pub(crate) fn set(zones: &mut Zones, actor: u32, old: u8, temporary: bool, shape: &Shape) -> Answer
@@ -20,6 +21,28 @@ pub(crate) fn set(zones: &mut Zones, actor: u32, old: u8, temporary: bool, shape
         Ok(number) => Answer::Number(number),
         Err(ZoneFault::ZoneUsed) => Answer::ZoneUsed,
         Err(ZoneFault::ZoneFull) => Answer::ZoneFull,
+    }
+}
+
+/// Gives the task's arm a zone that sets a signal.
+pub(crate) fn tie(
+    zones: &mut Zones,
+    actor: u32,
+    old: u8,
+    temporary: bool,
+    shape: &Shape,
+    signal: u32,
+    value: bool,
+) -> Answer
+    requires { actor < length zones.old.arms }
+    ensures answer { result ≡ tie_number_of (tie_answer zones.old actor old signal) }
+    ensures zones { zones.new ≡ zones_with zones.old actor (requests.ZoneTie old temporary shape.now signal value) result }
+{
+    match zones.tie(actor, old, temporary, shape, signal, value) {
+        Ok(number) => Answer::Number(number),
+        Err(TieFault::ZoneUsed) => Answer::ZoneUsed,
+        Err(TieFault::ZoneFull) => Answer::ZoneFull,
+        Err(TieFault::Tied) => Answer::Tied,
     }
 }
 

@@ -2,7 +2,6 @@
 use Rattle.std.proofs.Common.{◌≡◌, true, false, cond, List, [], ◌∷◌, ◌++◌, Option, Some, None, refl, ap, sym, ◌∙◌, subst}
 use Rattle.std.specs.Prelude.{IsSome, is_some, is_none, filter}
 use Rattle.std.specs.Option.{option_or}
-use Rattle.std.proofs.lemmas.Bool.{false≢true}
 use Rattle.std.proofs.lemmas.List.{append-nil, map-append}
 use Rattle.std.proofs.lemmas.List.Elements.{filter-append}
 use Rattle.rapid_model.specs.Own.{fate_of, end_of, has_ended}
@@ -68,7 +67,7 @@ module _ {M : Type 0} (stands_for : M → List Answer → Type 0) (due : M → O
   pub way_ended : (m : M) (mine : List Event) (e : Event) → is_some (fate_of e.request) ≡ true → has_ended mine ≡ false → UnderWay stands_for due m mine → UnderWay stands_for due m (mine ++ e ∷ [])
   way_ended m mine e end going way = record {
     stands = subst (λ (xs : List Answer). stands_for m xs) (sym (before_end_more mine e ∙ some_fate (answers_before_end mine) e.answer (fate_of e.request) end)) way.stands;
-    goes_on = λ going_on. absurd (false≢true (sym going_on ∙ ended_more mine e going ∙ end));
+    asked = way.asked;
   }
 
   -- and one that has gone on with the answer of its task's next event
@@ -77,11 +76,11 @@ module _ {M : Type 0} (stands_for : M → List Answer → Type 0) (due : M → O
   way_on m later mine e no_end way asks on = record {
     stands = subst (λ (xs : List Answer). stands_for later xs) (sym (before_end_more mine e ∙ ap (λ (told : Option Fate). answers_before_end mine ++ and_answer e.answer [] told) (no_fate (fate_of e.request) no_end)))
         (on (answers_before_end mine) way.stands);
-    goes_on = λ going_on. asks;
+    asked = asks;
   }
 
   pub stood : (m : M) (mine : List Event) → UnderWay stands_for due m mine → has_ended mine ≡ false → stands_for m (answers_in mine)
   stood m mine way going = subst (λ (xs : List Answer). stands_for m xs) (before_end_all mine going) way.stands
 
   pub has_begun : (m : M) → IsSome (due m) → stands_for m [] → UnderWay stands_for due m []
-  has_begun m asks stands = record { stands = stands; goes_on = λ going. asks }
+  has_begun m asks stands = record { stands = stands; asked = asks }

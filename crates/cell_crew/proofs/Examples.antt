@@ -30,8 +30,8 @@ the_end_is_left_out = refl
 -- after its Look the machine has asked its End, and stays so when that is answered
 under_way : UnderWay counts due 1 (looked ∷ [])
 unfolding looked counts due
-under_way = record { stands = refl; goes_on = λ going. refl }
+under_way = record { stands = refl; asked = refl }
 
 has_ended : UnderWay counts due 1 (looked ∷ told ∷ [])
 unfolding looked told counts due
-has_ended = record { stands = refl; goes_on = λ going. refl }
+has_ended = record { stands = refl; asked = refl }

@@ -1,5 +1,5 @@
 -- What the core is asked in a turn, and what it may answer.
-use Rattle.std.proofs.Common.{◌≡◌, inl, inr, ℕ, ◌<◌, Bool, true, false, not, ◌&&◌, ◌||◌, List, length, Option, refl, ◌∙◌, ap, arith}
+use Rattle.std.proofs.Common.{◌≡◌, inl, inr, ℕ, ◌<◌, Bool, true, false, not, ◌&&◌, ◌||◌, List, length, refl, ◌∙◌, ap, arith}
 use Rattle.std.specs.Prelude.{IsTrue, nat_le}
 use Rattle.std.proofs.lemmas.Bool.{leb-false, or_parts, true≢false}
 use Rattle.std.proofs.lemmas.Option.{slice_get_cases}
@@ -9,11 +9,10 @@ use Rattle.rapid_model.specs.Requests.{goes_with}
 use Rattle.rapid_model.specs.declared.event.Event.{Event}
 use Rattle.rapid_model.specs.declared.request.Request.{Request}
 use Rattle.rapid_model.specs.declared.request.Request.TheVariants as requests
-use Rattle.rapid_model.specs.declared.task_row.TaskRow.{TaskRow}
 use Rattle.cell_meaning.specs.Answers.{is_enabled}
 use Rattle.cell_meaning.specs.Fates.{all_ended, is_spent}
 use Rattle.cell_meaning.specs.Inputs.{inputs_done}
-use Rattle.cell_meaning.specs.MayAsk.{is_offered, may_ask}
+use Rattle.cell_meaning.specs.MayAsk.{may_ask}
 use Rattle.cell_meaning.specs.Stalled.{is_stalled}
 use Rattle.cell_meaning.proofs.Asked.{suits_by}
 use Rattle.cell_meaning.proofs.InputScript.{script_may}
@@ -35,12 +34,12 @@ pub rise_may : (cell : CellData) (history : List Event) (task : ℕ) → task < 
     → IsTrue (may_ask cell task (part_of task history) requests.Rise)
 rise_may cell history task within going held =
     elim (slice_get_cases cell.tasks task).1 [
-      | inl it ↦ ap (λ (row : Option TaskRow). is_offered requests.Rise && suits_by cell task (part_of task history) requests.Rise row) it.2
+      | inl it ↦ ap (suits_by cell task (part_of task history) requests.Rise) it.2
           ∙ both (has_ended (part_of task history)) (is_held (part_of task history)) going held
       | inr past ↦ (let le = past.0 in absurd (omega (arith, within, le)))
     ]
   where
-    both : (ended held : Bool) → ended ≡ false → held ≡ true → (true && ((not ended && goes_with held true) && true)) ≡ true
+    both : (ended held : Bool) → ended ≡ false → held ≡ true → ((not ended && goes_with held true) && true) ≡ true
     both ended held p q = rw (p, q) refl
 
 -- while not all is over, the input script may ask for its next step

@@ -120,6 +120,7 @@ op_name (ops.Order on single) = codes "Order"
 op_name (ops.Irq o) = codes "Irq"
 op_name (ops.Shape inside home) = codes "Shape"
 op_name (ops.ZoneSet temporary) = codes "ZoneSet"
+op_name (ops.ZoneTie temporary s) = codes "ZoneTie"
 op_name (ops.Zone o) = codes "Zone"
 op_name (ops.Say tail) = codes "Say"
 
@@ -168,6 +169,7 @@ op_args (ops.Order on single) = order_text on ++ word (truth_text single)
 op_args (ops.Irq o) = word (irq_name o)
 op_args (ops.Shape inside home) = word (truth_text inside) ++ word (truth_text home)
 op_args (ops.ZoneSet temporary) = word (truth_text temporary)
+op_args (ops.ZoneTie temporary s) = word (truth_text temporary) ++ number_word s
 op_args (ops.Zone o) = word (zone_name o)
 op_args (ops.Say tail) = word (tail_name tail)
 op_args op = []

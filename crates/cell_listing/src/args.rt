@@ -42,6 +42,7 @@ pub(crate) fn push_args(op: &Op, line: &mut ArrayString<OPERATION_BYTES>)
         Op::Irq(irq) => push_word(irq_name(*irq), line),
         Op::Shape(inside, home) => push_truths(*inside, *home, line),
         Op::ZoneSet(temporary) => push_word(truth_name(*temporary), line),
+        Op::ZoneTie(temporary, signal) => push_tie(*temporary, *signal, line),
         Op::Zone(zone) => push_word(zone_name(*zone), line),
         Op::Say(tail) => push_word(tail_name(*tail), line),
         Op::Errno
@@ -114,6 +115,15 @@ fn push_truths(one: bool, other: bool, line: &mut ArrayString<OPERATION_BYTES>)
 {
     push_word(truth_name(one), line);
     push_word(truth_name(other), line);
+}
+
+/// Appends whether a zone is temporary, and a signal by its number in the cell, each after a space.
+fn push_tie(temporary: bool, signal: u32, line: &mut ArrayString<OPERATION_BYTES>)
+    requires room { length line.old.bytes + ONE_WORD_BYTES + NUMBER_BYTES ≤ OPERATION_BYTES }
+    ensures { line.new.bytes ≡ line.old.bytes ++ (word (truth_text temporary) ++ number_word signal) }
+{
+    push_word(truth_name(temporary), line);
+    push_number(signal, line);
 }
 
 /// Appends what an interrupt is ordered on, and whether it fires only once, each after a space.

@@ -58,6 +58,7 @@ pub(crate) fn op_name(op: &Op) -> &'static str
         Op::Irq(_) => "Irq",
         Op::Shape(_, _) => "Shape",
         Op::ZoneSet(_) => "ZoneSet",
+        Op::ZoneTie(_, _) => "ZoneTie",
         Op::Zone(_) => "Zone",
         Op::Say(_) => "Say",
     }

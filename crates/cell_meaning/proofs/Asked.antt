@@ -10,7 +10,7 @@ use Rattle.rapid_model.specs.declared.event.Event.{Event}
 use Rattle.rapid_model.specs.declared.request.Request.{Request}
 use Rattle.rapid_model.specs.declared.request.Request.TheVariants as requests
 use Rattle.rapid_model.specs.declared.task_row.TaskRow.{TaskRow}
-use Rattle.cell_meaning.specs.MayAsk.{is_offered, may_ask}
+use Rattle.cell_meaning.specs.MayAsk.{may_ask}
 
 -- a task of the cell that has not ended makes a request that suits it: Rise if it is held, and nothing else
 pub record TaskMay (cell : CellData) (actor : ℕ) (mine : List Event) (request : Request) : Type 0 where
@@ -56,9 +56,4 @@ who cell actor mine request None at suits =
     inr (next_input cell actor mine request (eqb-true actor (length cell.tasks) w.0) w.1)
 
 pub who_may : (cell : CellData) (actor : ℕ) (mine : List Event) (request : Request) → IsTrue (may_ask cell actor mine request) → TaskMay cell actor mine request ⊎ ScriptMay cell actor mine request
-who_may cell actor mine request may =
-    who cell actor mine request (slice_get cell.tasks actor) refl (and_parts (is_offered request) (suits_by cell actor mine request (slice_get cell.tasks actor)) may).1
-
--- what may be asked, the cell offers
-pub asked_offered : (cell : CellData) (actor : ℕ) (mine : List Event) (request : Request) → IsTrue (may_ask cell actor mine request) → IsTrue (is_offered request)
-asked_offered cell actor mine request may = (and_parts (is_offered request) (suits_by cell actor mine request (slice_get cell.tasks actor)) may).0
+who_may cell actor mine request may = who cell actor mine request (slice_get cell.tasks actor) refl may

@@ -5,6 +5,7 @@ use Rattle.std.specs.List.{list_all}
 use Rattle.std.specs.Option.{option_map}
 use Rattle.std.proofs.lemmas.Bool.{and_parts, eq-eqb, le-leb, false≢true, and_from}
 use Rattle.rapid_num.specs.declared.joints.Joints.{Joints}
+use Rattle.rapid_num.specs.declared.shape.Shape.{Shape}
 use Rattle.rapid_num.specs.Reach.{is_position}
 use Rattle.rapid_model.specs.CellData.{CellData, IsCell}
 use Rattle.rapid_model.specs.Fits.{fits_pers, fits_request, fitting_in}
@@ -27,23 +28,26 @@ use Rattle.trap_dispatch.specs.declared.due.Due.{Due}
 use Rattle.trap_dispatch.specs.declared.due.Due.TheVariants as dues
 use Rattle.trap_dispatch.specs.Firing.{connected_at}
 use Rattle.trap_dispatch.specs.Tasks.{TaskData, connect_answer, look_answer, trap_of}
+use Rattle.world_zones.specs.declared.tie_fault.TieFault.{TieFault}
+use Rattle.world_zones.specs.declared.tie_fault.TieFault.TheVariants as tie_faults
 use Rattle.world_zones.specs.declared.zone_fault.ZoneFault.{ZoneFault}
 use Rattle.world_zones.specs.declared.zone_fault.ZoneFault.TheVariants as zone_faults
+use Rattle.world_zones.specs.Outputs.{is_tied, tie_answer}
 use Rattle.world_zones.specs.Zones.{arm_at, zone_at, set_answer, is_temporary}
-use Rattle.cell_meaning.specs.Answers.{IsAnswer, IsMoveAnswer, look_of, value_of, position_of, number_of, order_of, known_of, zone_number_of, temporary_of}
+use Rattle.cell_meaning.specs.Answers.{IsAnswer, IsMoveAnswer, look_of, value_of, position_of, number_of, order_of, known_of, zone_number_of, tie_number_of, written_of, temporary_of}
 use Rattle.cell_meaning.specs.Changes.{changes_by_others}
 use Rattle.cell_meaning.specs.Interrupts.{interrupts_of}
-use Rattle.cell_meaning.specs.MayAsk.{is_offered, may_ask}
+use Rattle.cell_meaning.specs.MayAsk.{may_ask}
 use Rattle.cell_meaning.specs.Meetings.{is_met}
 use Rattle.cell_meaning.specs.Premises.{AllAnswered, StartsFull}
 use Rattle.cell_meaning.specs.Stored.{persistent_after, value_at}
 use Rattle.cell_meaning.specs.Zones.{zones_after}
-use Rattle.cell_meaning.proofs.Asked.{TaskMay, ScriptMay, who_may, asked_offered}
+use Rattle.cell_meaning.proofs.Asked.{TaskMay, ScriptMay, who_may}
 use Rattle.cell_meaning.proofs.InterruptsKept.{first_is_due, free_number, tasks_kept}
 use Rattle.cell_meaning.proofs.TaskKept.{KeptTask, has_entry}
 use Rattle.cell_meaning.proofs.Positions.{arm_well, row_axes}
 use Rattle.cell_meaning.proofs.ValuesKept.{test_of, value_there, values_kept}
-use Rattle.cell_meaning.proofs.ZonesKept.{free_zone, zones_kept}
+use Rattle.cell_meaning.proofs.ZonesKept.{free_zone, tie_given, zones_kept}
 
 -- the answer fits the request of an actor with these own events
 abbrev Fits : CellData → ℕ → List Event → Request → Answer → Type 0
@@ -128,13 +132,27 @@ zone_fits cell history actor mine task old request (Ok number) is used full new 
 zone_fits cell history actor mine task old request (Err zone_faults.ZoneUsed) is used full new = used
 zone_fits cell history actor mine task old request (Err zone_faults.ZoneFull) is used full new = full
 
+tie_fits : (cell : CellData) (history : List Event) (actor : ℕ) (mine : List Event) (task old : ℕ) (temporary : Bool) (shape : Shape) (signal : ℕ) (value : Bool) (result : Result ℕ TieFault)
+    → tie_answer (zones_after cell history) task old signal ≡ result → Fits cell actor mine (requests.ZoneTie old temporary shape signal value) (tie_number_of result)
+tie_fits cell history actor mine task old temporary shape signal value (Ok number) is =
+    let arm = arm_at (zones_after cell history) task in
+    let new = tie_given (is_tied (zones_after cell history) signal) (set_answer arm old) number is in
+    let bounds = free_zone arm old number (zones_kept cell history task) new.1 in
+    within_so 1 10 number bounds.0 bounds.1
+tie_fits cell history actor mine task old temporary shape signal value (Err tie_faults.ZoneUsed) is = refl
+tie_fits cell history actor mine task old temporary shape signal value (Err tie_faults.ZoneFull) is = refl
+tie_fits cell history actor mine task old temporary shape signal value (Err tie_faults.Tied) is = refl
+
+written_fits : (cell : CellData) (actor : ℕ) (mine : List Event) (signal : ℕ) (value b : Bool) → Fits cell actor mine (requests.WriteS signal value) (written_of b)
+written_fits cell actor mine signal value true = refl
+written_fits cell actor mine signal value false = refl
+
 -- what is known of a task and its cell
 record Known (cell : CellData) (history : List Event) (actor : ℕ) (request : Request) : Type 0 where
   limits : IsCell cell
   full : StartsFull cell
   asked : AllAnswered cell history
   may : TaskMay cell actor (part_of actor history) request
-  offered : IsTrue (is_offered request)
 
 task_fits : (cell : CellData) (history : List Event) (actor : ℕ) (request : Request) (answer : Answer) → Known cell history actor request → IsAnswer cell history actor request answer
     → Fits cell actor (part_of actor history) request answer
@@ -147,6 +165,8 @@ task_fits cell history actor requests.Position answer known is =
     let stands = arm_well cell history actor known.may.row known.limits known.asked known.may.at known.may.suits in
     subst (λ (a : Answer). Fits cell actor (part_of actor history) requests.Position a) (sym (is ∙ ap position_of stands.there))
     (subst (λ (axes : ℕ). is_position axes stands.position ≡ true) (sym (row_axes cell actor known.may.row known.may.at)) stands.well)
+task_fits cell history actor (requests.WriteS signal value) answer known is =
+    subst (λ (a : Answer). Fits cell actor (part_of actor history) (requests.WriteS signal value) a) (sym is) (written_fits cell actor (part_of actor history) signal value (is_tied (zones_after cell history) signal))
 task_fits cell history actor (requests.Setpoint to) answer known is =
     let stands = arm_well cell history actor known.may.row known.limits known.asked known.may.at (and_parts (is_some known.may.row.arm) (is_position known.may.row.axes to) known.may.suits).0 in
     move_fits cell history actor (part_of actor history) actor to stands.position answer (subst (λ (o : Option Joints). IsMoveAnswer cell history actor to o answer) stands.there is)
@@ -164,7 +184,9 @@ task_fits cell history actor (requests.Delete number) answer known is =
 task_fits cell history actor (requests.ZoneSet old temporary shape) answer known is =
     subst (λ (a : Answer). Fits cell actor (part_of actor history) (requests.ZoneSet old temporary shape) a) (sym is)
     (zone_fits cell history actor (part_of actor history) actor old (requests.ZoneSet old temporary shape) (set_answer (arm_at (zones_after cell history) actor) old) refl refl refl (λ n within. within))
-task_fits cell history actor (requests.ZoneTie old temporary shape signal value) answer known is = absurd (false≢true known.offered)
+task_fits cell history actor (requests.ZoneTie old temporary shape signal value) answer known is =
+    subst (λ (a : Answer). Fits cell actor (part_of actor history) (requests.ZoneTie old temporary shape signal value) a) (sym is)
+    (tie_fits cell history actor (part_of actor history) actor old temporary shape signal value (tie_answer (zones_after cell history) actor old signal) refl)
 task_fits cell history actor (requests.ZoneOn zone) answer known is =
     subst (λ (a : Answer). Fits cell actor (part_of actor history) (requests.ZoneOn zone) a) (sym is) (temporary_fits cell actor (part_of actor history) (requests.ZoneOn zone) (is_temporary (zone_at (arm_at (zones_after cell history) actor) zone)) refl refl)
 task_fits cell history actor (requests.ZoneOff zone) answer known is =
@@ -188,5 +210,5 @@ answer_fits cell history actor request answer limits full asked may is = by (who
   where
     by : TaskMay cell actor (part_of actor history) request ⊎ ScriptMay cell actor (part_of actor history) request → Fits cell actor (part_of actor history) request answer
     by (inl task) =
-        task_fits cell history actor request answer (record { limits = limits; full = full; asked = asked; may = task; offered = asked_offered cell actor (part_of actor history) request may }) is
+        task_fits cell history actor request answer (record { limits = limits; full = full; asked = asked; may = task }) is
     by (inr script) = script_fits cell history actor (length (part_of actor history)) request answer script.next is

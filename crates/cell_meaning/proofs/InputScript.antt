@@ -1,5 +1,5 @@
 -- The input script is an actor like the tasks.
-use Rattle.std.proofs.Common.{◌≡◌, inl, inr, ℕ, ◌<◌, ◌≤◌, Bool, true, List, length, Option, None, refl, sym, ◌∙◌, ap, subst, arith}
+use Rattle.std.proofs.Common.{◌≡◌, inl, inr, ℕ, ◌<◌, ◌≤◌, Bool, true, List, length, None, refl, sym, ◌∙◌, ap, subst, arith}
 use Rattle.std.specs.Prelude.{◌&&◌, ◌==◌, IsTrue, nat_lt, slice_get}
 use Rattle.std.proofs.lemmas.Bool.{eq-eqb, lt-ltb}
 use Rattle.std.proofs.lemmas.List.{length-map}
@@ -10,10 +10,9 @@ use Rattle.rapid_model.specs.declared.answer.Answer.{Answer}
 use Rattle.rapid_model.specs.declared.event.Event.{Event}
 use Rattle.rapid_model.specs.declared.request.Request.{Request}
 use Rattle.rapid_model.specs.declared.request.Request.TheVariants as requests
-use Rattle.rapid_model.specs.declared.task_row.TaskRow.{TaskRow}
 use Rattle.cell_meaning.specs.Asking.{Asking, with_inputs}
 use Rattle.cell_meaning.specs.Histories.{IsLegal}
-use Rattle.cell_meaning.specs.MayAsk.{is_offered, may_ask}
+use Rattle.cell_meaning.specs.MayAsk.{may_ask}
 use Rattle.cell_meaning.specs.Premises.{OnlyActorsAsk, AsksOne, AsksWhatItMay, AsksUntilItsEnd, AsksInputs, TasksAskWell, AskTheSame}
 use Rattle.cell_meaning.proofs.Asked.{suits_by}
 
@@ -40,11 +39,11 @@ inputs_asked asks cell = record { next = λ answers left. inr (record { script =
 pub script_may : (cell : CellData) (mine : List Event) → length mine < length cell.inputs → IsTrue (may_ask cell (length cell.tasks) mine (requests.Input (length mine)))
 script_may cell mine left =
     let none : slice_get cell.tasks (length cell.tasks) ≡ None = slice_get_past cell.tasks (length cell.tasks) (omega arith) in
-    ap (λ (row : Option TaskRow). is_offered (requests.Input (length mine)) && suits_by cell (length cell.tasks) mine (requests.Input (length mine)) row) none
+    ap (suits_by cell (length cell.tasks) mine (requests.Input (length mine))) none
     ∙ all_three (length cell.tasks == length cell.tasks) (length mine == length mine) (nat_lt (length mine) (length cell.inputs))
     (eq-eqb (length cell.tasks) (length cell.tasks) refl) (eq-eqb (length mine) (length mine) refl) (lt-ltb (length mine) (length cell.inputs) left)
   where
-    all_three : (a b c : Bool) → a ≡ true → b ≡ true → c ≡ true → (true && (a && (b && c))) ≡ true
+    all_three : (a b c : Bool) → a ≡ true → b ≡ true → c ≡ true → (a && (b && c)) ≡ true
     all_three a b c p q r = rw (p, q, r) refl
 
 -- the tasks and the input script ask only what they may, if the tasks do

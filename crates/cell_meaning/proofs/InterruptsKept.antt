@@ -24,10 +24,13 @@ use Rattle.trap_dispatch.specs.Firing.{connected_at}
 use Rattle.trap_dispatch.specs.Tasks.{TaskData, before_all, with_number, fresh, with_order, with_sleep, ordered, slept, deleted, least_free, connect_answer, look_answer, in_first_trap, after_changes, trap_of}
 use Rattle.trap_dispatch.specs.Traps.{task_at, with_task}
 use Rattle.trap_dispatch.proofs.Positions.{position_from-below}
+use Rattle.world_zones.specs.declared.tie_fault.TieFault.{TieFault}
+use Rattle.world_zones.specs.declared.tie_fault.TieFault.TheVariants as tie_faults
 use Rattle.world_zones.specs.declared.zone_fault.ZoneFault.{ZoneFault}
 use Rattle.world_zones.specs.declared.zone_fault.ZoneFault.TheVariants as zone_faults
+use Rattle.world_zones.specs.Outputs.{is_tied, tie_answer}
 use Rattle.world_zones.specs.Zones.{arm_at, zone_at, set_answer, is_temporary}
-use Rattle.cell_meaning.specs.Answers.{IsAnswer, IsMoveAnswer, look_of, value_of, position_of, number_of, order_of, known_of, zone_number_of, temporary_of}
+use Rattle.cell_meaning.specs.Answers.{IsAnswer, IsMoveAnswer, look_of, value_of, position_of, number_of, order_of, known_of, zone_number_of, tie_number_of, written_of, temporary_of}
 use Rattle.cell_meaning.specs.Changes.{changes_of, changes_by_others}
 use Rattle.cell_meaning.specs.Interrupts.{asked_with, interrupts_after, interrupts_of}
 use Rattle.cell_meaning.specs.Meetings.{is_met}
@@ -96,6 +99,16 @@ zone_number_trapless (Ok number) = refl
 zone_number_trapless (Err zone_faults.ZoneUsed) = refl
 zone_number_trapless (Err zone_faults.ZoneFull) = refl
 
+tie_number_trapless : (answer : Result ℕ TieFault) → is_trap (tie_number_of answer) ≡ false
+tie_number_trapless (Ok number) = refl
+tie_number_trapless (Err tie_faults.ZoneUsed) = refl
+tie_number_trapless (Err tie_faults.ZoneFull) = refl
+tie_number_trapless (Err tie_faults.Tied) = refl
+
+written_trapless : (b : Bool) → is_trap (written_of b) ≡ false
+written_trapless true = refl
+written_trapless false = refl
+
 temporary_trapless : (b : Bool) → is_trap (temporary_of b) ≡ false
 temporary_trapless true = refl
 temporary_trapless false = refl
@@ -112,6 +125,7 @@ move_trapless cell history task to (Some from) _ is = refl
 trapless : (cell : CellData) (history : List Event) (actor : ℕ) (request : Request) (answer : Answer) → IsAnswer cell history actor request answer → is_look request ≡ false → is_trap answer ≡ false
 trapless cell history actor requests.Look answer is other = absurd (true≢false other)
 trapless cell history actor (requests.ReadP pers path) answer is other = ap is_trap is ∙ value_trapless (value_at (persistent_after cell history pers) path)
+trapless cell history actor (requests.WriteS signal value) answer is other = ap is_trap is ∙ written_trapless (is_tied (zones_after cell history) signal)
 trapless cell history actor requests.Position answer is other = ap is_trap is ∙ position_trapless (arm_after cell history actor)
 trapless cell history actor (requests.Setpoint to) answer is other = move_trapless cell history actor to (arm_after cell history actor) answer is
 trapless cell history actor (requests.Connect old trap) answer is other = ap is_trap is ∙ number_trapless (connect_answer (interrupts_of cell history actor) old)
@@ -120,6 +134,7 @@ trapless cell history actor (requests.Sleep number) answer is other = ap is_trap
 trapless cell history actor (requests.Watch number) answer is other = ap is_trap is ∙ known_trapless (connected_at (interrupts_of cell history actor).numbers number)
 trapless cell history actor (requests.Delete number) answer is other = ap is_trap is ∙ known_trapless (connected_at (interrupts_of cell history actor).numbers number)
 trapless cell history actor (requests.ZoneSet old temporary shape) answer is other = ap is_trap is ∙ zone_number_trapless (set_answer (arm_at (zones_after cell history) actor) old)
+trapless cell history actor (requests.ZoneTie old temporary shape signal value) answer is other = ap is_trap is ∙ tie_number_trapless (tie_answer (zones_after cell history) actor old signal)
 trapless cell history actor (requests.ZoneOn zone) answer is other = ap is_trap is ∙ temporary_trapless (is_temporary (zone_at (arm_at (zones_after cell history) actor) zone))
 trapless cell history actor (requests.ZoneOff zone) answer is other = ap is_trap is ∙ temporary_trapless (is_temporary (zone_at (arm_at (zones_after cell history) actor) zone))
 trapless cell history actor (requests.ZoneFree zone) answer is other = ap is_trap is ∙ temporary_trapless (is_temporary (zone_at (arm_at (zones_after cell history) actor) zone))

@@ -9,6 +9,7 @@ pub mod InterruptsKept
 pub mod ZonesKept
 pub mod ValuesKept
 pub mod FitAnswers
+pub mod OutputLists
 pub mod MoreChanges
 pub mod PartChanges
 pub mod MoreFirings
@@ -24,10 +25,13 @@ mod Examples
 mod InterruptExamples
 mod MeetingExamples
 mod ZoneExamples
+mod OutputExamples
 mod WaitExamples
 mod MoveExamples
 pub mod Since
 mod MeetingsTold
-mod Numbered
-mod ZonesTold
+pub mod Numbered
+pub mod ZonesTold
+pub mod Ties
+pub mod Follow
 mod InterruptsTold

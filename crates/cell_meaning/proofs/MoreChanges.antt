@@ -2,7 +2,7 @@
 use Rattle.std.proofs.Common.{◌≡◌, ℕ, zero, suc, ◌+◌, ◌<◌, Bool, true, false, List, [], ◌∷◌, ◌++◌, length, get_or, set, Option, None, Some, refl, ◌∙◌, ap, arith}
 use Rattle.std.specs.Prelude.{◌&&◌, if◌then◌else◌, slice_get}
 use Rattle.std.specs.Cmp.Lexicographic.{pointwise}
-use Rattle.std.proofs.lemmas.Bool.{true≢false}
+use Rattle.std.proofs.lemmas.Bool.{false≢true, true≢false}
 use Rattle.std.proofs.lemmas.List.{append-nil, length-map, length-set}
 use Rattle.rapid_model.specs.CellData.{CellData}
 use Rattle.rapid_model.specs.Truths.{same_truth}
@@ -17,12 +17,19 @@ use Rattle.rapid_model.specs.declared.value.Value.{Value}
 use Rattle.rapid_model.specs.declared.value.Value.TheVariants as values
 use Rattle.rapid_model.specs.declared.watched.Watched.{Watched}
 use Rattle.rapid_model.specs.declared.watched.Watched.TheVariants as watched
+use Rattle.rapid_num.specs.declared.joints.Joints.{Joints}
 use Rattle.rapid_values.specs.Equality.{same}
 use Rattle.rapid_values.proofs.Equalities.{same_decides}
+use Rattle.world_zones.specs.declared.own_zone.OwnZone.{OwnZone}
+use Rattle.world_zones.specs.Zones.{arm_at}
 use Rattle.cell_meaning.specs.Changes.{changed_signals, changed_persistents, changes_of}
-use Rattle.cell_meaning.specs.Stored.{with_input, signals_with, signals_after, signal_after, with_part, persistents_with, persistents_after, persistent_after}
+use Rattle.cell_meaning.specs.Motion.{arm_after}
+use Rattle.cell_meaning.specs.Outputs.{outputs_set, with_outputs}
+use Rattle.cell_meaning.specs.Stored.{with_input, signals_written, signals_with, signals_by, signals_after, signal_after, with_part, persistents_with, persistents_after, persistent_after}
+use Rattle.cell_meaning.specs.Zones.{zones_after}
 use Rattle.cell_meaning.proofs.Lists.{from_front}
 use Rattle.cell_meaning.proofs.MoreEvents.{signals_after-more, persistents_after-more}
+use Rattle.cell_meaning.proofs.OutputLists.{length-with_outputs}
 
 -- a list equals itself
 pub all_same : {A : Type 0} (test : A → A → Bool) → ((x : A) → test x x ≡ true) → (xs : List A) → pointwise test xs xs ≡ true
@@ -39,7 +46,7 @@ same_but_one test each (x ∷ xs) zero a d lt = ap (λ b. test x a && b) (all_sa
     and_true false = refl
 same_but_one test each (x ∷ xs) (suc i) a d lt = ap (λ b. b && pointwise test xs (set xs i a)) (each x) ∙ same_but_one test each xs i a d (omega arith)
 
-truth_same : (b : Bool) → same_truth b b ≡ true
+pub truth_same : (b : Bool) → same_truth b b ≡ true
 truth_same true = refl
 truth_same false = refl
 
@@ -93,15 +100,20 @@ length-input : (signals : List Bool) (row : Option InputRow) → length (with_in
 length-input signals None = refl
 length-input signals (Some row) = length-set signals row.signal row.value
 
-length-signals_with : (cell : CellData) (signals : List Bool) (request : Request) (answer : Answer) → length (signals_with cell signals request answer) ≡ length signals
-length-signals_with cell signals (requests.WriteS signal value) answers.Ok = length-set signals signal value
-length-signals_with cell signals (requests.Input index) answers.Ok = length-input signals (slice_get cell.inputs index)
-length-signals_with cell signals _ _ = refl
+pub length-signals_written : (cell : CellData) (signals : List Bool) (request : Request) (answer : Answer) → length (signals_written cell signals request answer) ≡ length signals
+length-signals_written cell signals (requests.WriteS signal value) answers.Ok = length-set signals signal value
+length-signals_written cell signals (requests.Input index) answers.Ok = length-input signals (slice_get cell.inputs index)
+length-signals_written cell signals _ _ = refl
+
+-- what the zones of an event's task set
+abbrev pub outputs_by : CellData → List Event → Event → List (ℕ × Bool)
+outputs_by cell before e = outputs_set (arm_at (zones_after cell (before ++ e ∷ [])) e.actor) (arm_after cell (before ++ e ∷ []) e.actor) e.request e.answer
 
 pub length-signals_after : (cell : CellData) (history : List Event) → length (signals_after cell history) ≡ length cell.signals
 length-signals_after cell history =
     from_front (λ h. length (signals_after cell h) ≡ length cell.signals) history (length-map cell.signals (λ row. row.start))
-    (λ before after e is many. ap length (signals_after-more cell before e) ∙ length-signals_with cell (signals_after cell before) e.request e.answer ∙ many)
+    (λ before after e is many. ap length (signals_after-more cell before e) ∙ length-with_outputs (signals_written cell (signals_after cell before) e.request e.answer) (outputs_by cell before e)
+    ∙ length-signals_written cell (signals_after cell before) e.request e.answer ∙ many)
 
 length-persistents_with : (rows : List (List Value)) (request : Request) (answer : Answer) → length (persistents_with rows request answer) ≡ length rows
 length-persistents_with rows (requests.WriteP pers path value) answers.Ok = length-set rows pers _
@@ -117,10 +129,11 @@ length-persistents_after cell history =
 abbrev changed : CellData → List Event → List Bool → List (List Value) → List Watched
 changed cell before signals rows = changed_signals 0 (signals_after cell before) signals ++ changed_persistents 0 (persistents_after cell before) rows
 
-changes_so : (cell : CellData) (before : List Event) (e : Event) → changes_of cell before e ≡ changed cell before (signals_with cell (signals_after cell before) e.request e.answer) (persistents_with (persistents_after cell before) e.request e.answer)
+changes_so : (cell : CellData) (before : List Event) (e : Event)
+    → changes_of cell before e ≡ changed cell before (signals_by cell (before ++ e ∷ []) e (signals_after cell before)) (persistents_with (persistents_after cell before) e.request e.answer)
 changes_so cell before e =
     ap (λ (signals : List Bool). changed cell before signals (persistents_after cell (before ++ e ∷ []))) (signals_after-more cell before e)
-    ∙ ap (λ (rows : List (List Value)). changed cell before (signals_with cell (signals_after cell before) e.request e.answer) rows) (persistents_after-more cell before e)
+    ∙ ap (λ (rows : List (List Value)). changed cell before (signals_by cell (before ++ e ∷ []) e (signals_after cell before)) rows) (persistents_after-more cell before e)
 
 signal_alone : (cell : CellData) (before : List Event) (signal : ℕ) (value : Bool) → signal < length cell.signals
     → changed cell before (set (signals_after cell before) signal value) (persistents_after cell before) ≡ (if same_truth (signal_after cell before signal) value then [] else watched.Signal signal value ∷ [])
@@ -172,12 +185,19 @@ may_change (requests.WriteS signal value) answers.Ok = true
 may_change (requests.Input index) answers.Ok = true
 may_change (requests.WriteP pers path value) answers.Ok = true
 may_change (requests.TestSet pers path) (answers.Yes true) = true
+may_change (requests.ZoneTie old temporary shape signal value) (answers.Number number) = true
+may_change (requests.ZoneOn number) answers.Ok = true
+may_change (requests.Setpoint to) answers.Given = true
 may_change _ _ = false
 
-signals_kept : (cell : CellData) (signals : List Bool) (request : Request) (answer : Answer) → may_change request answer ≡ false → signals_with cell signals request answer ≡ signals
-signals_kept cell signals (requests.WriteS signal value) answers.Ok never = absurd (true≢false never)
-signals_kept cell signals (requests.Input index) answers.Ok never = absurd (true≢false never)
-signals_kept cell signals _ _ never = refl
+signals_kept : (cell : CellData) (zones : List (Option OwnZone)) (arm : Option Joints) (signals : List Bool) (request : Request) (answer : Answer) → may_change request answer ≡ false
+    → signals_with cell zones arm signals request answer ≡ signals
+signals_kept cell zones arm signals (requests.WriteS signal value) answers.Ok never = absurd (true≢false never)
+signals_kept cell zones arm signals (requests.Input index) answers.Ok never = absurd (true≢false never)
+signals_kept cell zones arm signals (requests.ZoneTie old temporary shape signal value) (answers.Number number) never = absurd (true≢false never)
+signals_kept cell zones arm signals (requests.ZoneOn number) answers.Ok never = absurd (true≢false never)
+signals_kept cell zones arm signals (requests.Setpoint to) answers.Given never = absurd (true≢false never)
+signals_kept cell zones arm signals _ _ never = refl
 
 persistents_kept : (rows : List (List Value)) (request : Request) (answer : Answer) → may_change request answer ≡ false → persistents_with rows request answer ≡ rows
 persistents_kept rows (requests.WriteP pers path value) answers.Ok never = absurd (true≢false never)
@@ -188,7 +208,36 @@ persistents_kept rows _ _ never = refl
 pub changes_of-none : (cell : CellData) (before : List Event) (e : Event) → may_change e.request e.answer ≡ false → changes_of cell before e ≡ []
 changes_of-none cell before e never =
     changes_so cell before e
-    ∙ ap (λ (signals : List Bool). changed cell before signals (persistents_with (persistents_after cell before) e.request e.answer)) (signals_kept cell (signals_after cell before) e.request e.answer never)
+    ∙ ap (λ (signals : List Bool). changed cell before signals (persistents_with (persistents_after cell before) e.request e.answer))
+    (signals_kept cell (arm_at (zones_after cell (before ++ e ∷ [])) e.actor) (arm_after cell (before ++ e ∷ []) e.actor) (signals_after cell before) e.request e.answer never)
     ∙ ap (λ (rows : List (List Value)). changed cell before (signals_after cell before) rows) (persistents_kept (persistents_after cell before) e.request e.answer never)
     ∙ ap (λ (c : List Watched). c ++ changed_persistents 0 (persistents_after cell before) (persistents_after cell before)) (no_signal 0 (signals_after cell before))
     ∙ no_persistent 0 (persistents_after cell before)
+
+-- a zone that is given or switched on, and a setpoint, change only signals that zones set
+abbrev pub sets_outputs : Request → Answer → Bool
+sets_outputs (requests.ZoneTie old temporary shape signal value) (answers.Number number) = true
+sets_outputs (requests.ZoneOn number) answers.Ok = true
+sets_outputs (requests.Setpoint to) answers.Given = true
+sets_outputs _ _ = false
+
+none_written : (cell : CellData) (signals : List Bool) (request : Request) (answer : Answer) → sets_outputs request answer ≡ true → signals_written cell signals request answer ≡ signals
+none_written cell signals (requests.WriteS signal value) answer sets = absurd (false≢true sets)
+none_written cell signals (requests.Input index) answer sets = absurd (false≢true sets)
+none_written cell signals _ _ sets = refl
+
+none_stored : (rows : List (List Value)) (request : Request) (answer : Answer) → sets_outputs request answer ≡ true → persistents_with rows request answer ≡ rows
+none_stored rows (requests.WriteP pers path value) answer sets = absurd (false≢true sets)
+none_stored rows (requests.TestSet pers path) answer sets = absurd (false≢true sets)
+none_stored rows _ _ sets = refl
+
+pub changes_of-outputs : (cell : CellData) (before : List Event) (e : Event) → sets_outputs e.request e.answer ≡ true
+    → changes_of cell before e ≡ changed_signals 0 (signals_after cell before) (with_outputs (signals_after cell before) (outputs_by cell before e))
+changes_of-outputs cell before e sets =
+    let now : List Bool = with_outputs (signals_after cell before) (outputs_by cell before e) in
+    changes_so cell before e
+    ∙ ap (λ (signals : List Bool). changed cell before (with_outputs signals (outputs_by cell before e)) (persistents_with (persistents_after cell before) e.request e.answer))
+    (none_written cell (signals_after cell before) e.request e.answer sets)
+    ∙ ap (λ (rows : List (List Value)). changed cell before now rows) (none_stored (persistents_after cell before) e.request e.answer sets)
+    ∙ ap (λ (c : List Watched). changed_signals 0 (signals_after cell before) now ++ c) (no_persistent 0 (persistents_after cell before))
+    ∙ append-nil (changed_signals 0 (signals_after cell before) now)

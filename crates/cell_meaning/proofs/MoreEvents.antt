@@ -23,7 +23,7 @@ use Rattle.cell_meaning.specs.Interrupts.{interrupts_with, interrupts_from, inte
 use Rattle.cell_meaning.specs.Meetings.{stands_with, stands_after}
 use Rattle.cell_meaning.specs.Motion.{moved, arm_along, arm_after, is_given, setpoints_given}
 use Rattle.cell_meaning.specs.Rising.{seen_with, seen_after}
-use Rattle.cell_meaning.specs.Stored.{signals_with, signals_after, persistents_with, persistents_after}
+use Rattle.cell_meaning.specs.Stored.{signals_by, signals_from, signals_after, persistents_with, persistents_after}
 use Rattle.cell_meaning.specs.Zones.{zones_with, zones_after}
 
 -- an event from its parts
@@ -115,9 +115,15 @@ seen_after-own history e =
 pub seen_after-other : (history : List Event) (e : Event) (task : ℕ) → (e.actor ≡ task → ⊥) → seen_after (history ++ e ∷ []) task ≡ seen_after history task
 seen_after-other history e task other = ap (λ (mine : List Event). fold (λ seen f. seen_with seen f.request) 0 mine) (part_of-other task history e other)
 
-pub signals_after-more : (cell : CellData) (history : List Event) (e : Event) → signals_after cell (history ++ e ∷ []) ≡ signals_with cell (signals_after cell history) e.request e.answer
-signals_after-more cell history e =
-    fold-append (λ signals (f : Event). signals_with cell signals f.request f.answer) (map (λ row. row.start) cell.signals) history (e ∷ [])
+signals_from-more : (cell : CellData) (signals : List Bool) (before es : List Event) (e : Event)
+    → signals_from cell signals before (es ++ e ∷ []) ≡ signals_by cell ((before ++ es) ++ e ∷ []) e (signals_from cell signals before es)
+signals_from-more cell signals before [] e = ap (λ (b : List Event). signals_by cell (b ++ e ∷ []) e signals) (sym (append-nil before))
+signals_from-more cell signals before (f ∷ es) e =
+    signals_from-more cell (signals_by cell (before ++ f ∷ []) f signals) (before ++ f ∷ []) es e
+    ∙ ap (λ (b : List Event). signals_by cell (b ++ e ∷ []) e (signals_from cell (signals_by cell (before ++ f ∷ []) f signals) (before ++ f ∷ []) es)) (append_assoc before (f ∷ []) es)
+
+pub signals_after-more : (cell : CellData) (history : List Event) (e : Event) → signals_after cell (history ++ e ∷ []) ≡ signals_by cell (history ++ e ∷ []) e (signals_after cell history)
+signals_after-more cell history e = signals_from-more cell (map (λ row. row.start) cell.signals) [] history e
 
 pub persistents_after-more : (cell : CellData) (history : List Event) (e : Event) → persistents_after cell (history ++ e ∷ []) ≡ persistents_with (persistents_after cell history) e.request e.answer
 persistents_after-more cell history e =

@@ -38,7 +38,7 @@ abbrev pub FrontsToo : (List Event → Type 0) → Type 0
 FrontsToo G = (xs ys : List Event) → G (xs ++ ys) → G xs
 
 -- of the prefix that ends with an event
-with_event : (G : List Event → Type 0) → FrontsToo G → (history before after : List Event) (e : Event) → history ≡ before ++ e ∷ after → G history → G (before ++ e ∷ [])
+pub with_event : (G : List Event → Type 0) → FrontsToo G → (history before after : List Event) (e : Event) → history ≡ before ++ e ∷ after → G history → G (before ++ e ∷ [])
 with_event G fronts history before after e is good =
     fronts (before ++ e ∷ []) after (subst G (is ∙ sym (append_assoc before (e ∷ []) after)) good)
 

@@ -141,7 +141,7 @@ each_rests cell history (suc tasks) each =
     ap (λ (b : Bool). b && (has_ended (part_of tasks history) || is_stuck cell history tasks)) earlier ∙ each tasks (omega arith)
 
 -- an open step is one of the script's
-open_left : (cell : CellData) (history : List Event) (index : ℕ) → is_open cell history index ≡ true → index < length cell.inputs
+pub open_left : (cell : CellData) (history : List Event) (index : ℕ) → is_open cell history index ≡ true → index < length cell.inputs
 open_left cell history index opened =
     let ended = all_ended (length cell.tasks) history in
     let gate = is_gate_open cell history (slice_get cell.inputs index) in

@@ -17,8 +17,11 @@ use Rattle.trap_dispatch.specs.declared.due.Due.{Due}
 use Rattle.trap_dispatch.specs.declared.due.Due.TheVariants as dues
 use Rattle.trap_dispatch.specs.Firing.{connected_at}
 use Rattle.trap_dispatch.specs.Tasks.{connect_answer}
+use Rattle.world_zones.specs.declared.tie_fault.TieFault.{TieFault}
+use Rattle.world_zones.specs.declared.tie_fault.TieFault.TheVariants as tie_faults
 use Rattle.world_zones.specs.declared.zone_fault.ZoneFault.{ZoneFault}
 use Rattle.world_zones.specs.declared.zone_fault.ZoneFault.TheVariants as zone_faults
+use Rattle.world_zones.specs.Outputs.{is_tied, tie_answer}
 use Rattle.world_zones.specs.Touched.{IsTouched, IsFirstTouched}
 use Rattle.world_zones.specs.Zones.{arm_at, zone_at, set_answer, is_temporary}
 use Rattle.cell_meaning.specs.Changes.{changes_by_others}
@@ -75,6 +78,17 @@ zone_number_of (Ok number) = answers.Number number
 zone_number_of (Err zone_faults.ZoneUsed) = answers.ZoneUsed
 zone_number_of (Err zone_faults.ZoneFull) = answers.ZoneFull
 
+abbrev pub tie_number_of : Result ℕ TieFault → Answer
+tie_number_of (Ok number) = answers.Number number
+tie_number_of (Err tie_faults.ZoneUsed) = answers.ZoneUsed
+tie_number_of (Err tie_faults.ZoneFull) = answers.ZoneFull
+tie_number_of (Err tie_faults.Tied) = answers.Tied
+
+-- a signal that a zone sets is not written, not even by the zone's own task
+abbrev pub written_of : Bool → Answer
+written_of true = answers.Tied
+written_of false = answers.Ok
+
 -- a stationary zone stays
 abbrev pub temporary_of : Bool → Answer
 temporary_of true = answers.Ok
@@ -88,7 +102,7 @@ answer_after cell history actor (requests.ReadP pers path) = value_of (value_at 
 answer_after cell history actor (requests.WriteP pers path value) = answers.Ok
 answer_after cell history actor (requests.TestSet pers path) = answers.Yes (is_false (value_at (persistent_after cell history pers) path))
 answer_after cell history actor (requests.ReadS signal) = answers.Bit (signal_after cell history signal)
-answer_after cell history actor (requests.WriteS signal value) = answers.Ok
+answer_after cell history actor (requests.WriteS signal value) = written_of (is_tied (zones_after cell history) signal)
 -- the arm; IsMoveAnswer has the answer to a setpoint
 answer_after cell history actor requests.Position = position_of (arm_after cell history actor)
 answer_after cell history actor (requests.Setpoint to) = answers.Ok
@@ -101,9 +115,9 @@ answer_after cell history actor (requests.Delete number) = known_of (connected_a
 answer_after cell history actor requests.Disable = answers.Ok
 answer_after cell history actor requests.Enable = answers.Ok
 answer_after cell history actor requests.Leave = answers.Ok
--- zones; no task asks to tie an output to a zone
+-- zones
 answer_after cell history actor (requests.ZoneSet old temporary shape) = zone_number_of (set_answer (arm_at (zones_after cell history) actor) old)
-answer_after cell history actor (requests.ZoneTie old temporary shape signal value) = answers.Ok
+answer_after cell history actor (requests.ZoneTie old temporary shape signal value) = tie_number_of (tie_answer (zones_after cell history) actor old signal)
 answer_after cell history actor (requests.ZoneOn zone) = temporary_of (is_temporary (zone_at (arm_at (zones_after cell history) actor) zone))
 answer_after cell history actor (requests.ZoneOff zone) = temporary_of (is_temporary (zone_at (arm_at (zones_after cell history) actor) zone))
 answer_after cell history actor (requests.ZoneFree zone) = temporary_of (is_temporary (zone_at (arm_at (zones_after cell history) actor) zone))

@@ -1,10 +1,11 @@
 pub mod Counted
 pub mod Motion
+pub mod Zones
+pub mod Outputs
 pub mod Stored
 pub mod Meetings
 pub mod Changes
 pub mod Interrupts
-pub mod Zones
 pub mod Fates
 pub mod Inputs
 pub mod Rising
@@ -20,3 +21,4 @@ pub mod Since
 pub mod InterruptsSince
 pub mod MeetingsSince
 pub mod ZonesSince
+pub mod OutputsFollow

@@ -1,7 +1,8 @@
 -- The values of signals and persistents after a history.
-use Rattle.std.specs.Prelude.{ℕ, ◌-◌, Bool, true, false, List, [], map, Option, Some, None, slice_get, slice_set, slice_index_or}
+use Rattle.std.specs.Prelude.{ℕ, ◌-◌, Bool, true, false, List, [], ◌∷◌, ◌++◌, map, Option, Some, None, slice_get, slice_set, slice_index_or}
 use Rattle.std.specs.List.{fold}
 use Rattle.std.specs.Option.{option_and_then, unwrap_or}
+use Rattle.rapid_num.specs.declared.joints.Joints.{Joints}
 use Rattle.rapid_model.specs.CellData.{CellData}
 use Rattle.rapid_model.specs.declared.answer.Answer.{Answer}
 use Rattle.rapid_model.specs.declared.answer.Answer.TheVariants as answers
@@ -13,19 +14,38 @@ use Rattle.rapid_model.specs.declared.request.Request.TheVariants.{WriteP, TestS
 use Rattle.rapid_model.specs.declared.value.Value.{Value}
 use Rattle.rapid_model.specs.declared.value.Value.TheVariants as values
 use Rattle.rapid_values.specs.Values.{part_of, put_part}
+use Rattle.world_zones.specs.declared.own_zone.OwnZone.{OwnZone}
+use Rattle.world_zones.specs.Zones.{arm_at}
+use Rattle.cell_meaning.specs.Motion.{arm_after}
+use Rattle.cell_meaning.specs.Outputs.{outputs_set, with_outputs}
+use Rattle.cell_meaning.specs.Zones.{zones_after}
 
 abbrev pub with_input : List Bool → Option InputRow → List Bool
 with_input signals (Some row) = slice_set signals row.signal row.value
 with_input signals None = signals
 
--- the values of the signals after an event, from those before it
-abbrev pub signals_with : CellData → List Bool → Request → Answer → List Bool
-signals_with cell signals (WriteS signal value) answers.Ok = slice_set signals signal value
-signals_with cell signals (Input index) answers.Ok = with_input signals (slice_get cell.inputs index)
-signals_with cell signals _ _ = signals
+-- the values of the signals after what an event writes itself, from those before it
+abbrev pub signals_written : CellData → List Bool → Request → Answer → List Bool
+signals_written cell signals (WriteS signal value) answers.Ok = slice_set signals signal value
+signals_written cell signals (Input index) answers.Ok = with_input signals (slice_get cell.inputs index)
+signals_written cell signals _ _ = signals
+
+-- and after what zones of its task's arm set, given these zones and the position of the arm after the event
+abbrev pub signals_with : CellData → List (Option OwnZone) → Option Joints → List Bool → Request → Answer → List Bool
+signals_with cell zones arm signals request answer = with_outputs (signals_written cell signals request answer) (outputs_set zones arm request answer)
+
+-- the same for the last event of a history
+abbrev pub signals_by : CellData → List Event → Event → List Bool → List Bool
+signals_by cell history e signals =
+    signals_with cell (arm_at (zones_after cell history) e.actor) (arm_after cell history e.actor) signals e.request e.answer
+
+-- after these events and the later ones
+abbrev pub signals_from : CellData → List Bool → List Event → List Event → List Bool
+signals_from cell signals before [] = signals
+signals_from cell signals before (e ∷ es) = signals_from cell (signals_by cell (before ++ e ∷ []) e signals) (before ++ e ∷ []) es
 
 abbrev pub signals_after : CellData → List Event → List Bool
-signals_after cell history = fold (λ signals e. signals_with cell signals e.request e.answer) (map (λ row. row.start) cell.signals) history
+signals_after cell history = signals_from cell (map (λ row. row.start) cell.signals) [] history
 
 -- the value of the signal with this number
 abbrev pub signal_after : CellData → List Event → ℕ → Bool

@@ -12,7 +12,10 @@ ghost use Rattle.rapid_model.specs.declared.zone_name.ZoneName.TheVariants.{Own}
 ghost use Rattle.sync_tasks.specs.Meetings.{stand_at};
 ghost use Rattle.trap_dispatch.specs.declared.connected.Connected.{Connected};
 ghost use Rattle.trap_dispatch.specs.Firing.{connected_at};
+ghost use Rattle.world_zones.specs.declared.output.Output.{Output};
+ghost use Rattle.world_zones.specs.declared.own_zone.OwnZone.{OwnZone};
 ghost use Rattle.world_zones.specs.Touched.{supervised};
+ghost use Rattle.world_zones.specs.Zones.{arm_at, zone_at};
 ghost use Rattle.cell_meaning.specs.Answers.{is_enabled, IsAnswer};
 ghost use Rattle.cell_meaning.specs.Asking.{with_inputs};
 ghost use Rattle.cell_meaning.specs.Fates.{all_ended, is_spent};
@@ -22,6 +25,7 @@ ghost use Rattle.cell_meaning.specs.InterruptsSince.{Connects, ConnectsAny, Dele
 ghost use Rattle.cell_meaning.specs.MayAsk.{may_ask};
 ghost use Rattle.cell_meaning.specs.Meetings.{is_waiting, stands_after};
 ghost use Rattle.cell_meaning.specs.MeetingsSince.{Comes, ComesApart, is_met_at};
+ghost use Rattle.cell_meaning.specs.OutputsFollow.{OutputsFollow};
 ghost use Rattle.cell_meaning.specs.Over.{IsOver};
 ghost use Rattle.cell_meaning.specs.Premises.{OnlyActorsAsk, AsksOne, AsksWhatItMay, AsksUntilItsEnd, AsksInputs, TasksAskWell, AllAnswered, AskTheSame, StartsFull};
 ghost use Rattle.cell_meaning.specs.Since.{Since};
@@ -29,7 +33,7 @@ ghost use Rattle.cell_meaning.specs.Stalled.{is_stalled};
 ghost use Rattle.cell_meaning.specs.Stored.{signals_after};
 ghost use Rattle.cell_meaning.specs.Turns.{IsByTurns};
 ghost use Rattle.cell_meaning.specs.Zones.{zones_after};
-ghost use Rattle.cell_meaning.specs.ZonesSince.{Watches};
+ghost use Rattle.cell_meaning.specs.ZonesSince.{Sets, Watches};
 
 use crate::askers::Askers;
 
@@ -98,9 +102,17 @@ pub fn meetings_are_as_arrived()
 {}
 
 /// A law: the same for the zones of arms. A task's own zone watches its arm if a ZoneSet gave it, no ZoneFree has freed
-/// it since, and its last switch, counting the ZoneSet, is not ZoneOff.
+/// it since, and its last switch, counting the ZoneSet, is not ZoneOff. Likewise it is on with an output if a ZoneTie
+/// gave it.
 pub fn zones_are_as_given()
-    ensures { (cell : CellData) (history : List Event) (task number : ℕ) (shape : Shape) → AllAnswered cell history → task < length cell.tasks → (supervised (zones_after cell history) task (signals_after cell history) (Own number) ≡ Some shape) ↔ Watches task number shape history }
+    ensures watches { (cell : CellData) (history : List Event) (task number : ℕ) (shape : Shape) → AllAnswered cell history → task < length cell.tasks → (supervised (zones_after cell history) task (signals_after cell history) (Own number) ≡ Some shape) ↔ Watches task number shape history }
+    ensures sets { (cell : CellData) (history : List Event) (task number : ℕ) (shape : Shape) (output : Output) → AllAnswered cell history → task < length cell.tasks → ((zone : OwnZone) × (zone_at (arm_at (zones_after cell history) task) number ≡ Some zone) × (zone.shape ≡ shape) × (zone.on ≡ true) × (zone.output ≡ Some output)) ↔ Sets task number shape output history }
+{}
+
+/// A law: in a legal history, whoever asks, each output that a zone of an arm sets has the zone's value exactly while the
+/// arm is in the zone, from the event that gave the zone or switched it on until it is switched off or freed.
+pub fn outputs_follow_their_zones<A: Askers>()
+    ensures { (cell : CellData) (history : List Event) → IsCell cell → AsksWhatItMay A.asks cell → IsLegal A.asks cell history → OutputsFollow cell history }
 {}
 
 /// A law: the same for interrupts. A number is connected with a trap from the Connect that it answered until it is

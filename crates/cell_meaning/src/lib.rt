@@ -10,7 +10,7 @@ pub use askers::Askers;
 pub use full::starts_full;
 pub use laws::{
     answer_is_one, answers_fit, input_script_is_an_actor, interrupts_are_as_asked,
-    meetings_are_as_arrived, run_by_turns_is_legal_and_whole, run_by_turns_is_one,
-    stalled_history_is_whole, stalled_tasks_wait, who_ask_the_same_have_the_same_histories,
-    whole_history_is_over, zones_are_as_given,
+    meetings_are_as_arrived, outputs_follow_their_zones, run_by_turns_is_legal_and_whole,
+    run_by_turns_is_one, stalled_history_is_whole, stalled_tasks_wait,
+    who_ask_the_same_have_the_same_histories, whole_history_is_over, zones_are_as_given,
 };

@@ -1,13 +1,12 @@
 -- Each row that is read is within its limits.
-use Rattle.std.proofs.Common.{◌≡◌, ℕ, true, false, ◌&&◌, ℤ, List, [], ◌∷◌, ◌++◌, length, length-append, ap, map, take, drop, codes, Option, Some, None, Ok, ◌==◌, refl, arith, ◌∙◌}
+use Rattle.std.proofs.Common.{◌≡◌, ℕ, zero, suc, ◌-◌, ◌≤◌, Bool, true, false, ◌&&◌, ◌||◌, nat_le, nat_lt, ℤ, List, [], ◌∷◌, ◌++◌, length, length-append, ap, subst, map, take, drop, codes, Option, Some, None, Ok, ◌==◌, refl, arith}
 use Rattle.std.specs.Prelude.{pos, negsuc}
 use Rattle.std.specs.List.{list_all}
 use Rattle.std.proofs.Math.Seq.{take-append_seam, drop-append_seam}
-use Rattle.std.proofs.lemmas.Bool.{and_parts, and_from, eqb-true}
+use Rattle.std.proofs.lemmas.Bool.{and_parts, and_from, leb-true}
 use Rattle.toml.specs.Data.{Data, as_str, as_integer, as_bool}
 use Rattle.rapid_num.specs.Absent.{is_absent}
-use Rattle.rapid_num.specs.Reach.{is_in_reach, are_in_reach, absent_axes, is_position}
-use Rattle.rapid_num.specs.declared.joints.Joints.{Joints}
+use Rattle.rapid_num.specs.Reach.{are_in_reach, absent_axes, is_position}
 use Rattle.rapid_model.specs.Limits.{is_within, holds_where_there, is_start, is_signal}
 use Rattle.rapid_model.specs.Names.{is_short_name}
 use Rattle.rapid_model.specs.ScriptData.{is_file_name, is_task, is_given_value, is_pers_value, takes_axes}
@@ -17,9 +16,10 @@ use Rattle.rapid_model.specs.declared.script_task.ScriptTask.{ScriptTask}
 use Rattle.rapid_model.specs.declared.signal_row.SignalRow.{SignalRow}
 use Rattle.rapid_model.specs.declared.value.Value.TheVariants as values
 use Rattle.rule_checks.specs.Checks.{◌>>=◌, found_or}
+use Rattle.cell_script.specs.declared.arm.Arm.{Arm}
 use Rattle.cell_script.specs.Break.{at_key}
 use Rattle.cell_script.specs.Keys.{Keys, at, value_of, needed, optional, text_at, whole_at, bit_at, word_at, name_at, list_at, table_at}
-use Rattle.cell_script.specs.Rows.{signal_name_at, signal_of, task_name_at, files_at, arm_at, axes_of, task_of, signed_literal, number_value_at, truth_value_at, text_value_at, given_value, pers_of}
+use Rattle.cell_script.specs.Rows.{signal_name_at, signal_of, task_name_at, files_at, is_arm, start_at, arm_of, arm_at, armed, task_of, signed_literal, number_value_at, truth_value_at, text_value_at, given_value, pers_of}
 use Rattle.rule_checks.proofs.Keeps.{Keeps, Keeps-then, Keeps-any, Keeps-must}
 use Rattle.cell_script.proofs.Keeps.{Keeps-optional, Keeps-only}
 use Rattle.cell_script.proofs.KeepsNames.{IsName, IsNew, name_keeps, signal_name_keeps, task_name_keeps}
@@ -54,49 +54,75 @@ files_keep key d =
     let Q : List (List ℕ) → Type 0 = λ files. (is_within 1 16 (length files) && list_all is_file_name files) ≡ true in
     Keeps-any Q (list_at key as_str d) _ (λ files. Keeps-must Q (is_within 1 16 (length files) && list_all is_file_name files) (at_key key Range) (Ok files) (λ e. e))
 
--- axes 1 to 6 all reach equally far
-six_in_reach : (angles : List ℤ) → length angles ≡ 6 → are_in_reach 0 angles ≡ list_all (is_in_reach 0) angles
-six_in_reach [] six = absurd (omega arith)
-six_in_reach (a ∷ []) six = absurd (omega arith)
-six_in_reach (a ∷ b ∷ []) six = absurd (omega arith)
-six_in_reach (a ∷ b ∷ c ∷ []) six = absurd (omega arith)
-six_in_reach (a ∷ b ∷ c ∷ d ∷ []) six = absurd (omega arith)
-six_in_reach (a ∷ b ∷ c ∷ d ∷ e ∷ []) six = absurd (omega arith)
-six_in_reach (a ∷ b ∷ c ∷ d ∷ e ∷ f ∷ []) six = refl
-six_in_reach (a ∷ b ∷ c ∷ d ∷ e ∷ f ∷ g ∷ angles) six = absurd (omega arith)
+-- twelve axes: those of the arm, and the absent ones
+length-absent : (n : ℕ) → length (absent_axes n) ≡ n
+length-absent zero = refl
+length-absent (suc n) = ap suc (length-absent n)
 
-position : (angles : List ℤ) (arm : Joints) → list_all (is_in_reach 0) angles ≡ true → length angles ≡ 6 → arm.axis ≡ angles ++ absent_axes 6 → is_position 6 arm ≡ true
-position angles arm reach six e =
-    let front : take 6 arm.axis ≡ angles = rw (e, ← six) (take-append_seam angles (absent_axes 6)) in
-    let back : drop 6 arm.axis ≡ absent_axes 6 = rw (e, ← six) (drop-append_seam angles (absent_axes 6)) in
-    let long : length arm.axis ≡ 12 = ap length e ∙ omega (arith, six, length-append angles (absent_axes 6)) in
-    and_from (length arm.axis == 12 && are_in_reach 0 (take 6 arm.axis)) (list_all is_absent (drop 6 arm.axis))
-    (and_from (length arm.axis == 12) (are_in_reach 0 (take 6 arm.axis)) (rw long refl) (rw front (six_in_reach angles six ∙ reach))) (rw back refl)
+all_absent : (n : ℕ) → list_all is_absent (absent_axes n) ≡ true
+all_absent zero = refl
+all_absent (suc n) = all_absent n
 
-arm_keeps : (key : List ℕ) (d : Data) → Keeps (λ arm. is_position 6 arm ≡ true) (arm_at key d)
-arm_keeps key d =
-    let Q : Joints → Type 0 = λ arm. is_position 6 arm ≡ true in
-    Keeps-any Q (list_at key as_integer d) _ (λ angles.
-    Keeps-must Q (length angles == 6 && list_all (is_in_reach 0) angles) (at_key key Range) (Ok (record { axis = angles ++ absent_axes 6 })) (λ e.
-    let parts = and_parts (length angles == 6) (list_all (is_in_reach 0) angles) e in
-    position angles (record { axis = angles ++ absent_axes 6 }) parts.1 (eqb-true (length angles) 6 parts.0) refl))
+position : (angles : List ℤ) → are_in_reach 0 angles ≡ true → length angles ≤ 12 → is_position (length angles) (start_at angles) ≡ true
+position angles reach few =
+    let left : ℕ = 12 - length angles in
+    let axis : List ℤ = angles ++ absent_axes left in
+    let front : take (length angles) axis ≡ angles = take-append_seam angles (absent_axes left) in
+    let back : drop (length angles) axis ≡ absent_axes left = drop-append_seam angles (absent_axes left) in
+    let long : length axis ≡ 12 = omega (arith, few, length-append angles (absent_axes left), length-absent left) in
+    and_from (length axis == 12 && are_in_reach 0 (take (length angles) axis)) (list_all is_absent (drop (length angles) axis))
+    (and_from (length axis == 12) (are_in_reach 0 (take (length angles) axis)) (rw long refl) (rw front reach)) (rw back (all_absent left))
 
--- an arm of version 1 has six axes, and starts from a position
-record Starts (arm : Option Joints) : Type 0 where
-  pub few : takes_axes 1 (axes_of arm) ≡ true
-  pub start : is_start (axes_of arm) arm ≡ true
+-- an arm has axes that its version takes, and starts from a position
+record Arms (version : ℕ) (arm : Arm) : Type 0 where
+  pub few : takes_axes version arm.axes ≡ true
+  pub start : is_start arm.axes (Some arm.start) ≡ true
 
-start_keeps : (key : List ℕ) (o : Option Data) → Keeps Starts (optional None (λ a. arm_at key a >>= (λ arm. Ok (Some arm))) o)
-start_keeps key o =
-    let Q : Option Joints → Type 0 = Starts in
-    let P : Joints → Type 0 = λ arm. is_position 6 arm ≡ true in
-    Keeps-optional Q None (λ a. arm_at key a >>= (λ arm. Ok (Some arm))) o (record { few = refl; start = refl }) (λ d. Keeps-then P Q (arm_at key d) (λ arm. Ok (Some arm)) (arm_keeps key d) (λ arm is. record { few = refl; start = is }))
+arm_keeps : (version : ℕ) (key : List ℕ) (d : Data) → Keeps (Arms version) (arm_at version key d)
+arm_keeps version key d =
+    Keeps-any (Arms version) (list_at key as_integer d) _ (λ angles.
+    Keeps-must (Arms version) (is_arm version angles) (at_key key Range) (Ok (arm_of angles)) (λ e.
+    let parts = and_parts (is_within 6 12 (length angles) && takes_axes version (length angles)) (are_in_reach 0 angles) e in
+    let counts = and_parts (is_within 6 12 (length angles)) (takes_axes version (length angles)) parts.0 in
+    let few : length angles ≤ 12 = leb-true (length angles) 12 (and_parts (nat_le 6 (length angles)) (nat_le (length angles) 12) counts.0).1 in
+    record {
+      few = counts.1;
+      start = and_from (is_within 6 12 (length angles)) (is_position (length angles) (start_at angles)) counts.0 (position angles parts.1 few);
+    }))
 
-pub task_keeps : (before : List ScriptTask) (d : Data) → Keeps (λ task. (is_task 1 task ≡ true) × IsNew (map (λ task. task.name) before) task.name) (task_of before d)
+-- a task's arm, if it has one
+abbrev Armed : ℕ → Option Arm → Type 0
+Armed version None = Unit {0}
+Armed version (Some arm) = Arms version arm
+
+armed_keeps : (version : ℕ) (key : List ℕ) (o : Option Data) → Keeps (Armed version) (optional None (λ a. arm_at version key a >>= (λ arm. Ok (Some arm))) o)
+armed_keeps version key o =
+    Keeps-optional (Armed version) None (λ a. arm_at version key a >>= (λ arm. Ok (Some arm))) o tt
+    (λ d. Keeps-then (Arms version) (Armed version) (arm_at version key d) (λ arm. Ok (Some arm)) (arm_keeps version key d) (λ arm is. is))
+
+abbrev named_well : List ℕ → List (List ℕ) → Bool
+named_well name modules = is_short_name name && is_within 1 16 (length modules) && list_all is_file_name modules
+
+armed_is : (version : ℕ) (name : List ℕ) (modules : List (List ℕ)) (arm : Option Arm) → named_well name modules ≡ true → Armed version arm → is_task version (armed name modules arm) ≡ true
+armed_is version name modules None named is =
+    and_from (named_well name modules && takes_axes version 0) true (and_from (named_well name modules) (takes_axes version 0) named (either (nat_lt 1 version))) refl
+  where
+    either : (b : Bool) → (b || nat_le 0 6) ≡ true
+    either true = refl
+    either false = refl
+armed_is version name modules (Some arm) named is =
+    and_from (named_well name modules && takes_axes version arm.axes) (is_start arm.axes (Some arm.start))
+    (and_from (named_well name modules) (takes_axes version arm.axes) named is.few) is.start
+
+armed_name : (name : List ℕ) (modules : List (List ℕ)) (arm : Option Arm) → name ≡ (armed name modules arm).name
+armed_name name modules None = refl
+armed_name name modules (Some arm) = refl
+
+pub task_keeps : (version : ℕ) (before : List ScriptTask) (d : Data) → Keeps (λ task. (is_task version task ≡ true) × IsNew (map (λ task. task.name) before) task.name) (task_of version before d)
 unfolding task_of
-task_keeps before d =
+task_keeps version before d =
     let names : List (List ℕ) = map (λ task. task.name) before in
-    let Q : ScriptTask → Type 0 = λ task. (is_task 1 task ≡ true) × IsNew names task.name in
+    let Q : ScriptTask → Type 0 = λ task. (is_task version task ≡ true) × IsNew names task.name in
     let P : List ℕ → Type 0 = λ name. IsName name × IsNew names name in
     let F : List (List ℕ) → Type 0 = λ files. (is_within 1 16 (length files) && list_all is_file_name files) ≡ true in
     Keeps-any Q (table_at (codes "task") (length before) d) _ (λ keys.
@@ -104,14 +130,13 @@ task_keeps before d =
     (Keeps-any P (needed keys (codes "name")) _ (λ n. task_name_keeps (at keys (codes "name")) names n)) (λ name is.
     Keeps-then F Q (needed keys (codes "modules") >>= files_at (at keys (codes "modules"))) _
     (Keeps-any F (needed keys (codes "modules")) _ (λ m. files_keep (at keys (codes "modules")) m)) (λ modules files.
-    Keeps-then Starts Q (optional None (λ a. arm_at (at keys (codes "arm")) a >>= (λ arm. Ok (Some arm))) (value_of keys (codes "arm"))) _
-    (start_keeps (at keys (codes "arm")) (value_of keys (codes "arm"))) (λ arm start.
+    Keeps-then (Armed version) Q (optional None (λ a. arm_at version (at keys (codes "arm")) a >>= (λ arm. Ok (Some arm))) (value_of keys (codes "arm"))) _
+    (armed_keeps version (at keys (codes "arm")) (value_of keys (codes "arm"))) (λ arm of.
     let parts = and_parts (is_within 1 16 (length modules)) (list_all is_file_name modules) files in
-    Keeps-only Q keys (codes "name" ∷ codes "modules" ∷ codes "arm" ∷ []) (Ok (record { name = name; modules = modules; arm = arm; axes = axes_of arm })) (
-      and_from (((is_short_name name && is_within 1 16 (length modules)) && list_all is_file_name modules) && takes_axes 1 (axes_of arm)) (is_start (axes_of arm) arm)
-          (and_from ((is_short_name name && is_within 1 16 (length modules)) && list_all is_file_name modules) (takes_axes 1 (axes_of arm))
-          (and_from (is_short_name name && is_within 1 16 (length modules)) (list_all is_file_name modules) (and_from (is_short_name name) (is_within 1 16 (length modules)) is.0 parts.0) parts.1) start.few) start.start,
-      is.1,
+    Keeps-only Q keys (codes "name" ∷ codes "modules" ∷ codes "arm" ∷ []) (Ok (armed name modules arm)) (
+      armed_is version name modules arm
+          (and_from (is_short_name name && is_within 1 16 (length modules)) (list_all is_file_name modules) (and_from (is_short_name name) (is_within 1 16 (length modules)) is.0 parts.0) parts.1) of,
+      subst (IsNew names) (armed_name name modules arm) is.1,
     )))))
 
 -- ---- first values

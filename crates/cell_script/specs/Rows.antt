@@ -1,20 +1,20 @@
 -- The rows of a script: a signal, a task, a persistent's value, a zone, an input. The keys of each are listed in the
 -- order in which they are checked; an unknown key is reported last.
-use Rattle.std.specs.Prelude.{ℕ, ◌-◌, Bool, true, false, not, ◌&&◌, nat_le, ℤ, pos, negsuc, neg_ℤ, int_lt, List, [], ◌∷◌, ◌++◌, length, map, replicate, codes, Option, Some, None, Ok, Err, ◌==◌, if◌then◌else◌}
+use Rattle.std.specs.Prelude.{ℕ, ◌-◌, Bool, true, false, not, ◌&&◌, nat_le, ℤ, pos, negsuc, neg_ℤ, int_lt, List, [], ◌∷◌, ◌++◌, length, map, codes, Option, Some, None, Ok, Err, ◌==◌, if◌then◌else◌}
 use Rattle.std.specs.List.{list_all}
 use Rattle.std.specs.Option.{option_map}
 use Rattle.rapid_limits.specs.declared.TheConstants.{LONGEST_ARRAY, LONGEST_STRING, MOST_AXES, MOST_MODULES, MOST_STEPS, ROBOT_AXES}
 use Rattle.toml.specs.Data.{Data, as_str, as_integer, as_bool}
 use Rattle.rapid_num.specs.Literal.{literal_value}
-use Rattle.rapid_num.specs.Reach.{is_in_reach, absent_axes}
+use Rattle.rapid_num.specs.Reach.{is_in_reach, are_in_reach, absent_axes}
 use Rattle.rapid_num.specs.declared.joints.Joints.{Joints}
 use Rattle.rapid_num.specs.declared.shape.Bound.{Bound}
 use Rattle.rapid_num.specs.declared.shape.Shape.{Shape}
 use Rattle.rapid_builtins.specs.Names.{is_predefined}
-use Rattle.rapid_model.specs.Limits.{is_within, has_arm, is_input_signal}
+use Rattle.rapid_model.specs.Limits.{is_within, axes_at, has_arm, is_input_signal}
 use Rattle.rapid_model.specs.Names.{is_among}
 use Rattle.rapid_num.specs.Characters.{is_printable}
-use Rattle.rapid_model.specs.ScriptData.{is_file_name}
+use Rattle.rapid_model.specs.ScriptData.{is_file_name, takes_axes}
 use Rattle.rapid_model.specs.declared.input_row.InputRow.{InputRow}
 use Rattle.rapid_model.specs.declared.pers_value.PersValue.{PersValue}
 use Rattle.rapid_model.specs.declared.script_rule.ScriptRule.TheVariants.{Kind, Range, Name, Twice, NoSuch, Pair}
@@ -24,6 +24,7 @@ use Rattle.rapid_model.specs.declared.value.Value.{Value}
 use Rattle.rapid_model.specs.declared.value.Value.TheVariants as values
 use Rattle.rapid_model.specs.declared.zone_row.ZoneRow.{ZoneRow}
 use Rattle.rule_checks.specs.Checks.{◌>>=◌, ◌>>◌, must, found_or}
+use Rattle.cell_script.specs.declared.arm.Arm.{Arm}
 use Rattle.cell_script.specs.Break.{Read, at_key}
 use Rattle.cell_script.specs.Keys.{Keys, at, value_of, needed, optional, only_keys, text_at, whole_at, bit_at, word_at, name_at, number_at, list_at, table_at, pair_at}
 
@@ -57,25 +58,36 @@ files_at key d = do
   must (is_within 1 MOST_MODULES (length files) && list_all is_file_name files) (at_key key Range)
   Ok files
 
--- six angles within 720 degrees, in thousandths; there are no external axes, which come with version 2
-abbrev pub arm_at : List ℕ → Data → Read Joints
-arm_at key d = do
+-- an angle in reach for each axis of an arm, in thousandths of a degree: six axes, and in version 2 up to six external ones
+abbrev pub is_arm : ℕ → List ℤ → Bool
+is_arm version angles = is_within ROBOT_AXES MOST_AXES (length angles) && takes_axes version (length angles) && are_in_reach 0 angles
+
+-- the position at these angles; the axes that the arm does not have are absent
+abbrev pub start_at : List ℤ → Joints
+start_at angles = record { axis = angles ++ absent_axes (MOST_AXES - length angles) }
+
+-- the arm that starts at these angles, one for each of its axes
+abbrev pub arm_of : List ℤ → Arm
+arm_of angles = record { start = start_at angles; axes = length angles }
+
+abbrev pub arm_at : ℕ → List ℕ → Data → Read Arm
+arm_at version key d = do
   angles ← list_at key as_integer d
-  must (length angles == ROBOT_AXES && list_all (is_in_reach 0) angles) (at_key key Range)
-  Ok (record { axis = angles ++ absent_axes (MOST_AXES - ROBOT_AXES) })
+  must (is_arm version angles) (at_key key Range)
+  Ok (arm_of angles)
 
--- how many axes an arm has, if there is one
-abbrev pub axes_of : Option Joints → ℕ
-axes_of None = 0
-axes_of (Some arm) = ROBOT_AXES
+-- a task with its arm, if there is one
+abbrev pub armed : List ℕ → List (List ℕ) → Option Arm → ScriptTask
+armed name modules None = record { name = name; modules = modules; arm = None; axes = 0 }
+armed name modules (Some arm) = record { name = name; modules = modules; arm = Some arm.start; axes = arm.axes }
 
-unfoldable pub task_of : List ScriptTask → Data → Read ScriptTask
-task_of before d = do
+unfoldable pub task_of : ℕ → List ScriptTask → Data → Read ScriptTask
+task_of version before d = do
   keys ← table_at (codes "task") (length before) d
   name ← needed keys (codes "name") >>= task_name_at (at keys (codes "name")) (map (λ task. task.name) before)
   modules ← needed keys (codes "modules") >>= files_at (at keys (codes "modules"))
-  arm ← optional None (λ a. arm_at (at keys (codes "arm")) a >>= (λ arm. Ok (Some arm))) (value_of keys (codes "arm"))
-  only_keys keys (codes "name" ∷ codes "modules" ∷ codes "arm" ∷ []) (Ok (record { name = name; modules = modules; arm = arm; axes = axes_of arm }))
+  arm ← optional None (λ a. arm_at version (at keys (codes "arm")) a >>= (λ arm. Ok (Some arm))) (value_of keys (codes "arm"))
+  only_keys keys (codes "name" ∷ codes "modules" ∷ codes "arm" ∷ []) (Ok (armed name modules arm))
 
 -- the num of a numeric literal of at most 30 bytes, optionally after a minus sign
 abbrev pub signed_literal : List ℕ → Option ℤ
@@ -123,29 +135,39 @@ armed_task_at key tasks d = do
   must (has_arm (map (λ task. task.axes) tasks) task) (at_key key NoSuch)
   Ok task
 
--- an axis from 1 to 6
-abbrev pub is_axis : ℤ → Bool
-is_axis (pos a) = is_within 1 ROBOT_AXES a
-is_axis (negsuc a) = false
+-- one of an arm's axes, counted from 1
+abbrev pub is_axis : ℕ → ℤ → Bool
+is_axis count (pos a) = is_within 1 count a
+is_axis count (negsuc a) = false
 
--- the integers are ascending, each from 1 to 6
-abbrev pub are_axes : List ℤ → Bool
-are_axes [] = true
-are_axes (a ∷ []) = is_axis a
-are_axes (a ∷ b ∷ axes) = is_axis a && int_lt a b && are_axes (b ∷ axes)
+-- the integers are ascending, each one of that many axes
+abbrev pub are_axes : ℕ → List ℤ → Bool
+are_axes count [] = true
+are_axes count (a ∷ []) = is_axis count a
+are_axes count (a ∷ b ∷ axes) = is_axis count a && int_lt a b && are_axes count (b ∷ axes)
 
--- one or more axes
-abbrev pub axes_at : List ℕ → Data → Read (List ℤ)
-axes_at key d = do
+-- one or more of an arm's axes
+abbrev pub zone_axes_at : List ℕ → ℕ → Data → Read (List ℤ)
+zone_axes_at key count d = do
   axes ← list_at key as_integer d
-  must (not (length axes == 0) && are_axes axes) (at_key key Range)
+  must (not (length axes == 0) && are_axes count axes) (at_key key Range)
   Ok axes
 
--- as many bounds as axes, within 720 degrees
-abbrev pub bounds_at : List ℕ → ℕ → Data → Read (List ℤ)
-bounds_at key count d = do
+-- an angle is in reach of an axis, counted from 1
+abbrev pub is_in_reach_of : ℤ → ℤ → Bool
+is_in_reach_of (pos a) angle = is_in_reach (a - 1) angle
+is_in_reach_of (negsuc a) angle = is_in_reach 0 angle
+
+-- as many bounds as axes, each in reach of its axis
+abbrev pub are_bounds : List ℤ → List ℤ → Bool
+are_bounds [] [] = true
+are_bounds (a ∷ axes) (bound ∷ bounds) = is_in_reach_of a bound && are_bounds axes bounds
+are_bounds _ _ = false
+
+abbrev pub bounds_at : List ℕ → List ℤ → Data → Read (List ℤ)
+bounds_at key axes d = do
   bounds ← list_at key as_integer d
-  must (length bounds == count && list_all (is_in_reach 0) bounds) (at_key key Range)
+  must (are_bounds axes bounds) (at_key key Range)
   Ok bounds
 
 abbrev pub each_below : List ℤ → List ℤ → Bool
@@ -153,9 +175,9 @@ each_below (l ∷ ls) (h ∷ hs) = int_lt l h && each_below ls hs
 each_below _ _ = true
 
 -- high bounds: like the low ones, and each above its low one
-abbrev pub high_bounds_at : List ℕ → List ℤ → Data → Read (List ℤ)
-high_bounds_at key lows d = do
-  highs ← bounds_at key (length lows) d
+abbrev pub high_bounds_at : List ℕ → List ℤ → List ℤ → Data → Read (List ℤ)
+high_bounds_at key axes lows d = do
+  highs ← bounds_at key axes d
   must (each_below lows highs) (at_key key Range)
   Ok highs
 
@@ -171,7 +193,7 @@ bound_of axis _ _ _ = None
 
 abbrev pub shape_of : Bool → List ℤ → List ℤ → List ℤ → Shape
 shape_of inside axes lows highs =
-    record { inside = inside; bounds = map (λ axis. bound_of axis axes lows highs) (1 ∷ 2 ∷ 3 ∷ 4 ∷ 5 ∷ 6 ∷ []) ++ replicate (MOST_AXES - ROBOT_AXES) None }
+    record { inside = inside; bounds = map (λ axis. bound_of axis axes lows highs) (1 ∷ 2 ∷ 3 ∷ 4 ∷ 5 ∷ 6 ∷ 7 ∷ 8 ∷ 9 ∷ 10 ∷ 11 ∷ 12 ∷ []) }
 
 unfoldable pub zone_of : List SignalRow → List ScriptTask → List ZoneRow → Data → Read ZoneRow
 zone_of signals tasks before d = do
@@ -179,9 +201,9 @@ zone_of signals tasks before d = do
   name ← needed keys (codes "name") >>= name_at (at keys (codes "name"))
   task ← needed keys (codes "task") >>= armed_task_at (at keys (codes "task")) tasks
   inside ← needed keys (codes "kind") >>= word_at (at keys (codes "kind")) (codes "outside") (codes "inside")
-  axes ← needed keys (codes "axes") >>= axes_at (at keys (codes "axes"))
-  lows ← needed keys (codes "low") >>= bounds_at (at keys (codes "low")) (length axes)
-  highs ← needed keys (codes "high") >>= high_bounds_at (at keys (codes "high")) lows
+  axes ← needed keys (codes "axes") >>= zone_axes_at (at keys (codes "axes")) (axes_at (map (λ row. row.axes) tasks) task)
+  lows ← needed keys (codes "low") >>= bounds_at (at keys (codes "low")) axes
+  highs ← needed keys (codes "high") >>= high_bounds_at (at keys (codes "high")) axes lows
   signal ← needed keys (codes "signal") >>= number_at (at keys (codes "signal")) (map (λ row. row.name) signals)
   value ← needed keys (codes "value") >>= bit_at (at keys (codes "value"))
   only_keys keys (codes "name" ∷ codes "task" ∷ codes "kind" ∷ codes "axes" ∷ codes "low" ∷ codes "high" ∷ codes "signal" ∷ codes "value" ∷ [])

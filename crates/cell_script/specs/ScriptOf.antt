@@ -1,10 +1,10 @@
 -- What the text of a cell script means.
 use Rattle.std.specs.Prelude.{◌≡◌, ◌⊎◌, ℕ, List, [], ◌∷◌, codes, Some, None, Ok, Err}
 use Rattle.std.specs.Str.{IsUtf8}
-use Rattle.rapid_limits.specs.declared.TheConstants.{DEFAULT_STEPS, MOST_CELL_ZONES, MOST_INPUTS, MOST_PERS_VALUES, MOST_SIGNALS, MOST_STEPS, MOST_TASKS_AT_FIRST}
+use Rattle.rapid_limits.specs.declared.TheConstants.{DEFAULT_STEPS, MOST_CELL_ZONES, MOST_INPUTS, MOST_PERS_VALUES, MOST_SIGNALS, MOST_STEPS}
 use Rattle.toml.specs.Data.{Members}
 use Rattle.toml.specs.Parse.{parse_document}
-use Rattle.rapid_model.specs.ScriptData.{ScriptData}
+use Rattle.rapid_model.specs.ScriptData.{ScriptData, most_tasks}
 use Rattle.rapid_model.specs.declared.script_rule.ScriptRule.TheVariants.{NotToml}
 use Rattle.cell_script.specs.declared.fault.ScriptFault.{ScriptFault}
 use Rattle.cell_script.specs.declared.fault.ScriptFault.TheVariants.{Rule, Memory}
@@ -16,10 +16,10 @@ use Rattle.cell_script.specs.Rows.{signal_of, task_of, pers_of, zone_of, input_o
 -- the script that a table spells, or the first rule that it breaks, in the order of its keys
 unfoldable pub script_of_keys : Keys → Read ScriptData
 script_of_keys keys = do
-  version ← needed keys (codes "version") >>= whole_at (codes "version") 1 1
+  version ← needed keys (codes "version") >>= whole_at (codes "version") 1 2
   steps ← optional DEFAULT_STEPS (whole_at (codes "steps") 1 MOST_STEPS) (value_of keys (codes "steps"))
   signals ← optional [] (λ d. rows_at (codes "signal") 0 MOST_SIGNALS d >>= each_row signal_of []) (value_of keys (codes "signal"))
-  tasks ← needed keys (codes "task") >>= rows_at (codes "task") 1 MOST_TASKS_AT_FIRST >>= each_row task_of []
+  tasks ← needed keys (codes "task") >>= rows_at (codes "task") 1 (most_tasks version) >>= each_row (task_of version) []
   pers ← optional [] (λ d. rows_at (codes "pers") 0 MOST_PERS_VALUES d >>= each_row pers_of []) (value_of keys (codes "pers"))
   zones ← optional [] (λ d. rows_at (codes "zone") 0 MOST_CELL_ZONES d >>= each_row (zone_of signals tasks) []) (value_of keys (codes "zone"))
   inputs ← optional [] (λ d. rows_at (codes "input") 0 MOST_INPUTS d >>= each_row (input_of signals tasks) []) (value_of keys (codes "input"))

@@ -3,20 +3,19 @@
 ghost use Rattle.std.specs.Prelude.{◌≡◌, option_map, Some, None, IfOk, if◌then◌else◌};
 ghost use Rattle.std.specs.List.{list_all};
 ghost use Rattle.toml.specs.View.{view};
-ghost use Rattle.rapid_num.specs.Reach.{is_in_reach};
 ghost use Rattle.cell_script.specs.Keys.{at};
-ghost use Rattle.cell_script.specs.Parts.{angles_in};
+ghost use Rattle.cell_script.specs.Parts.{angles_in, is_angle};
 ghost use Rattle.cell_script.specs.Gives.{Gives, view_keys};
 
 use crate::fault::ScriptFault;
 use crate::keys::TableKeys;
 use crate::list::integers_at;
-use rapid_limits::ROBOT_REACH;
+use rapid_limits::EXTERNAL_REACH;
 use rapid_num::Num;
 use std::alloc::{AllocError, Global};
 use toml::Value;
 
-/// An array of integers, as angles: `None` if one is past 720 degrees.
+/// An array of integers, as angles: `None` if one is past the reach of every axis.
 pub(crate) fn angles_at(
     alloc: Global,
     keys: &TableKeys<'_>,
@@ -30,7 +29,7 @@ pub(crate) fn angles_at(
 }
 
 fn angles_from(alloc: Global, integers: &[i64]) -> Result<Option<Vec<Num>>, AllocError>
-    ensures { IfOk result (λ angles. option_map (λ list. list.items) angles ≡ (if list_all (is_in_reach 0) integers.now then Some integers.now else None)) }
+    ensures { IfOk result (λ angles. option_map (λ list. list.items) angles ≡ (if list_all is_angle integers.now then Some integers.now else None)) }
 {
     let mut angles = Vec::new(alloc);
     for integer in integers {
@@ -42,11 +41,11 @@ fn angles_from(alloc: Global, integers: &[i64]) -> Result<Option<Vec<Num>>, Allo
     Ok(Some(angles))
 }
 
-/// An angle within 720 degrees.
+/// An angle that some axis reaches; external axes reach the farthest.
 fn angle_from(integer: i64) -> Option<Num>
-    ensures { result ≡ (if is_in_reach 0 integer then Some integer else None) }
+    ensures { result ≡ (if is_angle integer then Some integer else None) }
 {
-    if integer.unsigned_abs() <= ROBOT_REACH {
+    if integer.unsigned_abs() <= EXTERNAL_REACH {
         Num::new(integer)
     } else {
         None

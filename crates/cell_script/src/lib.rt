@@ -2,6 +2,8 @@
 #![tactic(auto)]
 
 mod angle;
+mod arm;
+mod bounds;
 mod fault;
 mod input;
 mod keys;

@@ -24,8 +24,9 @@ use std::alloc::Global;
 use toml::Table;
 
 /// The script that a text spells, or the first rule that it breaks, with its key. Keys are checked in the order of
-/// their row; the script's own are `version` (1), `steps` (1 to 1000000, by default 100000), `signal`, `task`, `pers`,
-/// `zone` and `input`. Each element is checked with all its keys before the next; an unknown key is reported last.
+/// their row; the script's own are `version` (1 or 2), `steps` (1 to 1000000, by default 100000), `signal`, `task`,
+/// `pers`, `zone` and `input`. Each element is checked with all its keys before the next; an unknown key is reported
+/// last.
 pub fn read_script(alloc: Global, text: &[u8]) -> Result<Script, ScriptFault>
     ensures spelled { IfOk result (λ script. ScriptOf text.now (Ok script)) }
     // The key and the rule, exactly if the text breaks it.
@@ -62,7 +63,7 @@ fn read_table(alloc: Global, table: &Table) -> Result<Script, ScriptFault>
     let version = version_of(&keys)?;
     let steps = steps_of(&keys)?;
     let signals = signals_in(alloc, &keys)?;
-    let tasks = tasks_in(alloc, &keys)?;
+    let tasks = tasks_in(alloc, &keys, version)?;
     let pers = values_in(alloc, &keys)?;
     let zones = zones_in(alloc, &keys, &signals, &tasks)?;
     let inputs = inputs_in(alloc, &keys, &signals, &tasks)?;
@@ -83,12 +84,12 @@ fn read_table(alloc: Global, table: &Table) -> Result<Script, ScriptFault>
     )
 }
 
-/// The version of the format: 1.
+/// The version of the format: 1, or 2, which has external axes and more tasks.
 fn version_of(keys: &TableKeys<'_>) -> Result<u32, ScriptFault>
-    ensures { Gives (λ version. version) result (needed_whole (view_keys keys.now) (codes "version") 1 1) }
+    ensures { Gives (λ version. version) result (needed_whole (view_keys keys.now) (codes "version") 1 2) }
 {
     let value = keys.needed("version")?;
-    whole_at(keys, "version", 1, 1, value)
+    whole_at(keys, "version", 1, 2, value)
 }
 
 /// The greatest number of counted events.

@@ -16,12 +16,12 @@ pub(crate) fn shape_of(inside: bool, axes: &[i64], lows: &[Num], highs: &[Num]) 
         bound_of(4, axes, lows, highs),
         bound_of(5, axes, lows, highs),
         bound_of(6, axes, lows, highs),
-        None,
-        None,
-        None,
-        None,
-        None,
-        None,
+        bound_of(7, axes, lows, highs),
+        bound_of(8, axes, lows, highs),
+        bound_of(9, axes, lows, highs),
+        bound_of(10, axes, lows, highs),
+        bound_of(11, axes, lows, highs),
+        bound_of(12, axes, lows, highs),
     ];
     Shape { inside, bounds }
 }

@@ -1,68 +1,88 @@
 //! The tasks of the cell.
 
-ghost use Rattle.std.specs.Prelude.{◌≡◌, ◌-◌, ◌++◌, ◌==◌, ◌&&◌, [], codes, map, length, position, Some, None, IfSome, ◌<◌, ◌≤◌, if◌then◌else◌};
+ghost use Rattle.std.specs.Prelude.{◌≡◌, [], codes, map, length, position, IfSome, ◌<◌, ◌≤◌};
 ghost use Rattle.std.specs.List.{list_any, list_all};
 ghost use Rattle.std.specs.Str.{str_eq_ignore_ascii_case};
 ghost use Rattle.toml.specs.View.{view};
-ghost use Rattle.rapid_num.specs.Reach.{absent_axes};
-ghost use Rattle.rapid_model.specs.ScriptData.{is_file_name};
-ghost use Rattle.cell_script.specs.Keys.{at, value_of, number_at, each_row};
-ghost use Rattle.cell_script.specs.Rows.{task_name_at, files_at, arm_at, axes_of, task_of};
-ghost use Rattle.cell_script.specs.Parts.{needed_rows, where_there};
+ghost use Rattle.rapid_model.specs.ScriptData.{is_file_name, most_tasks};
+ghost use Rattle.cell_script.specs.Keys.{at, number_at, each_row};
+ghost use Rattle.cell_script.specs.Rows.{task_name_at, files_at, task_of};
+ghost use Rattle.cell_script.specs.Parts.{needed_rows};
 ghost use Rattle.cell_script.specs.Gives.{Gives, view_keys};
 
-use crate::angle::angles_at;
+use crate::arm::arm_in;
 use crate::fault::ScriptFault;
 use crate::keys::{TableKeys, table_at};
 use crate::list::{rows_at, texts_at};
 use crate::name::{is_same_name, name_at};
 use crate::plain::text_at;
-use rapid_limits::{
-    LONGEST_FILE_NAME, MOST_AXES, MOST_MODULES, MOST_TASKS, MOST_TASKS_AT_FIRST, ROBOT_AXES,
-};
+use rapid_limits::{LONGEST_FILE_NAME, MOST_MODULES, MOST_TASKS, MOST_TASKS_AT_FIRST};
 use rapid_model::{FileName, NameText, ScriptRule, ScriptTask, Sequence};
-use rapid_num::{Joints, Num};
 use std::alloc::Global;
 use toml::Value;
 
-/// The tasks, in script order: at least one, up to the limit.
-pub(crate) fn tasks_in(alloc: Global, keys: &TableKeys<'_>) -> Result<Vec<ScriptTask>, ScriptFault>
-    ensures { Gives (λ tasks. tasks.items) result (needed_rows (view_keys keys.now) (codes "task") 1 MOST_TASKS_AT_FIRST task_of) }
+/// The tasks, in script order: at least one, up to the limit of the version.
+pub(crate) fn tasks_in(
+    alloc: Global,
+    keys: &TableKeys<'_>,
+    version: u32,
+) -> Result<Vec<ScriptTask>, ScriptFault>
+    ensures { Gives (λ tasks. tasks.items) result (needed_rows (view_keys keys.now) (codes "task") 1 (most_tasks version) (task_of version)) }
 {
     let value = keys.needed("task")?;
-    let rows = rows_at(keys, "task", 1, MOST_TASKS_AT_FIRST, value)?;
-    tasks_of(alloc, rows)
+    let rows = rows_at(keys, "task", 1, most_tasks(version), value)?;
+    tasks_of(alloc, version, rows)
 }
 
-fn tasks_of(alloc: Global, rows: &[Value]) -> Result<Vec<ScriptTask>, ScriptFault>
-    ensures { Gives (λ tasks. tasks.items) result (each_row task_of [] (map view rows.now)) }
+/// The most tasks of a script of this version.
+fn most_tasks(version: u32) -> usize
+    ensures { result ≡ most_tasks version }
+{
+    if version == 1 {
+        MOST_TASKS_AT_FIRST
+    } else {
+        MOST_TASKS
+    }
+}
+
+fn tasks_of(alloc: Global, version: u32, rows: &[Value]) -> Result<Vec<ScriptTask>, ScriptFault>
+    ensures { Gives (λ tasks. tasks.items) result (each_row (task_of version) [] (map view rows.now)) }
 {
     let mut tasks = Vec::new(alloc);
     for row in rows {
-        let task = task_of(alloc, &tasks, row)?;
+        let task = task_of(alloc, version, &tasks, row)?;
         tasks.push(task)?;
     }
     Ok(tasks)
 }
 
 #[tactic(auto, unfolding(crate::specs::Rows::task_of))]
-fn task_of(alloc: Global, before: &[ScriptTask], value: &Value) -> Result<ScriptTask, ScriptFault>
-    ensures { Gives (λ task. task) result (task_of before.now (view value.now)) }
+fn task_of(
+    alloc: Global,
+    version: u32,
+    before: &[ScriptTask],
+    value: &Value,
+) -> Result<ScriptTask, ScriptFault>
+    ensures { Gives (λ task. task) result (task_of version before.now (view value.now)) }
 {
     let keys = table_at("task", before.len(), value)?;
     let name = task_name_at(&keys, "name", before, keys.needed("name")?)?;
     let modules = files_at(alloc, &keys, "modules", keys.needed("modules")?)?;
-    let arm = arm_of(alloc, &keys)?;
-    let axes = axes_of(&arm);
-    keys.only(
-        &["name", "modules", "arm"],
-        ScriptTask {
+    let task = match arm_in(alloc, &keys, version)? {
+        Some(arm) => ScriptTask {
             name,
             modules,
-            arm,
-            axes,
+            arm: Some(arm.start),
+            axes: arm.axes,
         },
-    )
+        None => ScriptTask {
+            name,
+            modules,
+            arm: None,
+            axes: 0,
+        },
+    };
+    keys.only(&["name", "modules", "arm"], task)
 }
 
 /// The name of a task: not another task's.
@@ -139,59 +159,4 @@ fn is_file_name(file: &FileName) -> bool
     ensures { result ≡ is_file_name file.now }
 {
     (1..=LONGEST_FILE_NAME).contains(&file.as_str().len())
-}
-
-/// Where the arm starts, if there is one.
-fn arm_of(alloc: Global, keys: &TableKeys<'_>) -> Result<Option<Joints>, ScriptFault>
-    ensures { Gives (λ arm. arm) result (where_there (arm_at (at (view_keys keys.now) (codes "arm"))) (value_of (view_keys keys.now) (codes "arm"))) }
-{
-    match keys.value("arm") {
-        Some(arm) => Ok(Some(arm_at(alloc, keys, "arm", arm)?)),
-        None => Ok(None),
-    }
-}
-
-/// How many axes an arm has, if there is one: six in version 1.
-fn axes_of(arm: &Option<Joints>) -> u8
-    ensures { result ≡ axes_of arm.now }
-{
-    match arm {
-        Some(_) => ROBOT_AXES as u8,
-        None => 0,
-    }
-}
-
-/// Six angles within 720 degrees. The external axes are absent, which is what 9E9 says (RAPID Instructions, Functions
-/// and types: extjoint).
-fn arm_at(
-    alloc: Global,
-    keys: &TableKeys<'_>,
-    key: &str,
-    value: &Value,
-) -> Result<Joints, ScriptFault>
-    ensures { Gives (λ arm. arm) result (arm_at (at (view_keys keys.now) key.now) (view value.now)) }
-{
-    let Some(angles) = angles_at(alloc, keys, key, value)? else {
-        return Err(keys.broken(key, ScriptRule::Range));
-    };
-    match arm_from(&angles) {
-        Some(arm) => Ok(arm),
-        None => Err(keys.broken(key, ScriptRule::Range)),
-    }
-}
-
-fn arm_from(angles: &[Num]) -> Option<Joints>
-    ensures { result ≡ (if length angles.now == ROBOT_AXES then Some (record { axis = angles.now ++ absent_axes (MOST_AXES - ROBOT_AXES) }) else None) }
-{
-    match angles {
-        [first, second, third, fourth, fifth, sixth] => {
-            let absent = Num::new(9_000_000_000_000)?;
-            let axis = [
-                *first, *second, *third, *fourth, *fifth, *sixth, absent, absent, absent, absent,
-                absent, absent,
-            ];
-            Some(Joints { axis })
-        }
-        _ => None,
-    }
 }

@@ -1,15 +1,14 @@
 //! The zones of the cell.
 
 ghost use Rattle.std.specs.Prelude.{◌≡◌, ◌≤◌, [], codes, map, length};
-ghost use Rattle.std.specs.List.{list_all};
 ghost use Rattle.toml.specs.View.{view};
-ghost use Rattle.rapid_model.specs.Limits.{has_arm};
+ghost use Rattle.rapid_model.specs.Limits.{axes_at, has_arm};
 ghost use Rattle.cell_script.specs.Keys.{at, optional, value_of, each_row};
-ghost use Rattle.cell_script.specs.Rows.{armed_task_at, is_axis, are_axes, axes_at, bounds_at, each_below, high_bounds_at, zone_of};
+ghost use Rattle.cell_script.specs.Rows.{armed_task_at, is_axis, are_axes, zone_axes_at, zone_of};
 ghost use Rattle.cell_script.specs.Parts.{rows_in};
 ghost use Rattle.cell_script.specs.Gives.{Gives, view_keys};
 
-use crate::angle::angles_at;
+use crate::bounds::{bounds_at, high_bounds_at};
 use crate::fault::ScriptFault;
 use crate::keys::{TableKeys, table_at};
 use crate::list::{integers_at, rows_at};
@@ -18,9 +17,8 @@ use crate::plain::{bit_at, word_at};
 use crate::shape::shape_of;
 use crate::signal::signal_at;
 use crate::task::task_at;
-use rapid_limits::{MOST_CELL_ZONES, MOST_SIGNALS, MOST_TASKS, ROBOT_AXES};
+use rapid_limits::{MOST_CELL_ZONES, MOST_SIGNALS, MOST_TASKS};
 use rapid_model::{ScriptRule, ScriptTask, SignalRow, ZoneRow};
-use rapid_num::Num;
 use std::alloc::Global;
 use toml::Value;
 
@@ -80,9 +78,10 @@ fn zone_of(
     let name = name_at(&keys, "name", keys.needed("name")?)?;
     let task = armed_task_at(&keys, "task", tasks, keys.needed("task")?)?;
     let inside = word_at(&keys, "kind", "outside", "inside", keys.needed("kind")?)?;
-    let axes = axes_at(alloc, &keys, "axes", keys.needed("axes")?)?;
-    let lows = bounds_at(alloc, &keys, "low", axes.len(), keys.needed("low")?)?;
-    let highs = high_bounds_at(alloc, &keys, "high", &lows, keys.needed("high")?)?;
+    let count = axes_of(tasks, task);
+    let axes = zone_axes_at(alloc, &keys, "axes", count, keys.needed("axes")?)?;
+    let lows = bounds_at(alloc, &keys, "low", &axes, keys.needed("low")?)?;
+    let highs = high_bounds_at(alloc, &keys, "high", &axes, &lows, keys.needed("high")?)?;
     let signal = signal_at(&keys, "signal", signals, keys.needed("signal")?)?;
     let value = bit_at(&keys, "value", keys.needed("value")?)?;
     keys.only(
@@ -120,87 +119,51 @@ fn armed_task_at(
 fn has_arm(tasks: &[ScriptTask], number: u32) -> bool
     ensures { result ≡ has_arm (map (λ task. task.axes) tasks.now) number }
 {
+    axes_of(tasks, number) > 0
+}
+
+/// The number of axes of a task's arm: 0 if the task has no arm.
+fn axes_of(tasks: &[ScriptTask], number: u32) -> u8
+    ensures { result ≡ axes_at (map (λ task. task.axes) tasks.now) number }
+{
     match tasks.get(number as usize) {
-        Some(task) => task.axes > 0,
-        None => false,
+        Some(task) => task.axes,
+        None => 0,
     }
 }
 
-/// One or more ascending axes from 1 to 6.
-fn axes_at(
+/// One or more of an arm's axes, ascending from 1.
+fn zone_axes_at(
     alloc: Global,
     keys: &TableKeys<'_>,
     key: &str,
+    count: u8,
     value: &Value,
 ) -> Result<Vec<i64>, ScriptFault>
-    ensures { Gives (λ axes. axes.items) result (axes_at (at (view_keys keys.now) key.now) (view value.now)) }
+    ensures { Gives (λ axes. axes.items) result (zone_axes_at (at (view_keys keys.now) key.now) count (view value.now)) }
 {
     let axes = integers_at(alloc, keys, key, value)?;
-    if !axes.is_empty() && are_axes(&axes) {
+    if !axes.is_empty() && are_axes(count, &axes) {
         Ok(axes)
     } else {
         Err(keys.broken(key, ScriptRule::Range))
     }
 }
 
-fn are_axes(axes: &[i64]) -> bool
-    ensures { result ≡ are_axes axes.now }
+fn are_axes(count: u8, axes: &[i64]) -> bool
+    ensures { result ≡ are_axes count axes.now }
 {
     match axes {
         [] => true,
-        [last] => is_axis(*last),
-        [first, second, ..] => is_axis(*first) && *first < *second && are_axes(&axes[1..]),
+        [last] => is_axis(count, *last),
+        [first, second, ..] => {
+            is_axis(count, *first) && *first < *second && are_axes(count, &axes[1..])
+        }
     }
 }
 
-fn is_axis(axis: i64) -> bool
-    ensures { result ≡ is_axis axis }
+fn is_axis(count: u8, axis: i64) -> bool
+    ensures { result ≡ is_axis count axis }
 {
-    (1..=ROBOT_AXES as i64).contains(&axis)
-}
-
-/// As many bounds as axes, within 720 degrees.
-fn bounds_at(
-    alloc: Global,
-    keys: &TableKeys<'_>,
-    key: &str,
-    count: usize,
-    value: &Value,
-) -> Result<Vec<Num>, ScriptFault>
-    ensures { Gives (λ bounds. bounds.items) result (bounds_at (at (view_keys keys.now) key.now) count (view value.now)) }
-{
-    match angles_at(alloc, keys, key, value)? {
-        Some(bounds) if bounds.len() == count => Ok(bounds),
-        _ => Err(keys.broken(key, ScriptRule::Range)),
-    }
-}
-
-/// High bounds: like the low ones, and each above its low one.
-fn high_bounds_at(
-    alloc: Global,
-    keys: &TableKeys<'_>,
-    key: &str,
-    lows: &[Num],
-    value: &Value,
-) -> Result<Vec<Num>, ScriptFault>
-    ensures { Gives (λ highs. highs.items) result (high_bounds_at (at (view_keys keys.now) key.now) lows.now (view value.now)) }
-{
-    let highs = bounds_at(alloc, keys, key, lows.len(), value)?;
-    if each_below(lows, &highs) {
-        Ok(highs)
-    } else {
-        Err(keys.broken(key, ScriptRule::Range))
-    }
-}
-
-fn each_below(lows: &[Num], highs: &[Num]) -> bool
-    ensures { result ≡ each_below lows.now highs.now }
-{
-    let [low, lows @ ..] = lows else {
-        return true;
-    };
-    let [high, highs @ ..] = highs else {
-        return true;
-    };
-    low.thousandths() < high.thousandths() && each_below(lows, highs)
+    1 <= axis && axis <= i64::from(count)
 }

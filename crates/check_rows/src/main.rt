@@ -26,7 +26,8 @@
 //!
 //! Such a row says how it ends, or with ` or ` between them several ways: the status; how many bytes are printed, which
 //! start the lines of `round.txt`; how many events the report has; whether the place of a refused module is before the
-//! damage, at it or past it; and the line on the second sink. A `*` stands for any text.
+//! damage, at it or past it; and the line on the second sink. A `*` stands for any text. Of an audit it says the status,
+//! and what is printed.
 #![tactic(auto)]
 
 mod cell;

@@ -3,7 +3,7 @@
 use super::cell::Cell;
 use super::place::side_of;
 use super::row::Row;
-use super::told::{Faults, NEVER, outcome_of, shelf_of};
+use super::told::{Faults, NEVER, Outcome, outcome_of, shelf_of};
 use std::alloc::{AllocError, Global};
 
 /// What a row tries; the head of main.rt says how a row spells it.
@@ -75,6 +75,9 @@ impl<'a> Trial<'a> {
         let faults = self.faults();
         let shelf = shelf_of(alloc, cell, self.file, damaged.as_slice(), &faults)?;
         let outcome = outcome_of(alloc, self.words, shelf, &faults)?;
+        if self.words.starts_with("audit ") {
+            return audit_told(alloc, &outcome);
+        }
         let mut told = format!(in alloc;
             "{}, {} bytes, {} events{} ",
             outcome.report.status,
@@ -108,6 +111,14 @@ impl<'a> Trial<'a> {
             room: number_of(self.device.strip_prefix("room "), NEVER),
         }
     }
+}
+
+/// What an audit tells: its status, and the lines on both sinks.
+fn audit_told(alloc: Global, outcome: &Outcome) -> anyhow::Result<Vec<u8>> {
+    let mut told = format!(in alloc; "{} ", outcome.report.status)?.into_bytes();
+    told.extend_from_slice(outcome.out.bytes())?;
+    told.extend_from_slice(outcome.err.bytes())?;
+    Ok(told)
 }
 
 /// The text with this number, from 0, or an empty one.

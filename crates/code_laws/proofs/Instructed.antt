@@ -37,7 +37,7 @@ use Rattle.code_laws.proofs.Alone.{store_alone}
 use Rattle.code_laws.proofs.Claims.{Claims}
 use Rattle.code_laws.proofs.CodeOf.{IsCodeOf}
 use Rattle.code_laws.proofs.InstructionSteps.{of_text, read_then}
-use Rattle.code_laws.proofs.Instructions.{Goes, add_goes, alone_goes, clear_goes, count_goes, number_goes, order_goes, reset_goes, say_bool_goes, say_goes, say_num_goes, set_goes, set_to_goes, shape_goes, supervise_goes, test_goes, time_goes, until_goes, wait_for_goes, watch_goes, zone_goes}
+use Rattle.code_laws.proofs.Instructions.{Goes, add_goes, alone_goes, clear_goes, count_goes, number_goes, order_goes, reset_goes, say_bool_goes, say_goes, say_num_goes, set_goes, set_to_goes, shape_goes, supervise_goes, test_goes, tie_goes, time_goes, until_goes, wait_for_goes, watch_goes, zone_goes}
 use Rattle.code_laws.proofs.InstructionsAlone.{define_alone, home_alone, number_alone, tells_alone, zone_alone}
 use Rattle.code_laws.proofs.Same.{no_part_then}
 use Rattle.code_laws.proofs.Sim.{sim_from, sim_gives, sim_misfit, sim_to}
@@ -135,6 +135,7 @@ instructed_goes s code claims labels pc instructions.WZHomeJointDef (Lent shape 
     shape_goes s code claims labels pc shape middle delta (ops.Shape (has (codes "Inside") given) true) (λ q m d. define_home s.tree.axes q (has (codes "Inside") given) m d) ps calls.0 calls.1.0 calls.1.1.0
     (home_done s code (has (codes "Inside") given)) (λ q m d. home_alone s.tree.axes q (has (codes "Inside") given) m d)
 instructed_goes s code claims labels pc instructions.WZLimSup (Lent zone ∷ Lent shape ∷ []) given ps calls others bare = supervise_goes s code claims labels pc zone shape (has (codes "Temp") given) ps calls.0 calls.1.0
+instructed_goes s code claims labels pc instructions.WZDOSet (Lent zone ∷ Lent shape ∷ OfSignal signal ∷ Given e ∷ []) given ps calls others bare = tie_goes s code claims labels pc zone shape signal e (has (codes "Temp") given) ps calls.0 calls.1.0 calls.1.1.1.0
 instructed_goes s code claims labels pc instructions.WZDisable (Lent zone ∷ []) given ps calls others bare = zone_goes s code claims labels pc zone (ops.Zone zones.Off) (λ q n. asks_of_zone (requests.ZoneOff n)) ps calls.0 (λ at n q. refl) (λ q n. zone_alone (requests.ZoneOff n))
 instructed_goes s code claims labels pc instructions.WZEnable (Lent zone ∷ []) given ps calls others bare = zone_goes s code claims labels pc zone (ops.Zone zones.On) (λ q n. asks_of_zone (requests.ZoneOn n)) ps calls.0 (λ at n q. refl) (λ q n. zone_alone (requests.ZoneOn n))
 instructed_goes s code claims labels pc instructions.WZFree (Lent zone ∷ []) given ps calls others bare = free_goes s code claims labels pc zone ps calls.0

@@ -6,6 +6,7 @@ use Rattle.std.proofs.lemmas.Bool.Decides.{Decides-int_eq}
 use Rattle.std.proofs.lemmas.Int.{ints}
 use Rattle.rapid_num.specs.Arithmetic.{num_of, sum_of}
 use Rattle.rapid_num.specs.declared.joints.Joints.{Joints}
+use Rattle.rapid_num.specs.declared.shape.Shape.{Shape}
 use Rattle.rapid_model.specs.Truths.{same_truth}
 use Rattle.rapid_model.specs.declared.fate.Fate.TheVariants as fates
 use Rattle.rapid_model.specs.declared.fate.Fault.TheVariants as faults
@@ -33,10 +34,10 @@ use Rattle.rapid_meaning.specs.Functions.{read_signal}
 use Rattle.rapid_meaning.specs.Instructions.{bit, num, ready, target, text, truth}
 use Rattle.rapid_meaning.specs.Interrupts.{number_at, order, pers_at}
 use Rattle.rapid_meaning.specs.Moves.{aim, still}
-use Rattle.rapid_meaning.specs.Places.{at_root, part_at, read_value, test_and_set, write_value}
+use Rattle.rapid_meaning.specs.Places.{at_root, load, part_at, read_value, test_and_set, write_value}
 use Rattle.rapid_meaning.specs.Signals.{has_value, write_signal}
 use Rattle.rapid_meaning.specs.Values.{applied, bit_in, in_range, num_in, of_bit, shape_in, target_in, text_in, tool_speed_in, truth_in, whole}
-use Rattle.rapid_meaning.specs.Zones.{defined, shape_at, supervise}
+use Rattle.rapid_meaning.specs.Zones.{defined, shape_at, supervise, tie}
 use Rattle.stack_code.specs.Confs.{Conf}
 use Rattle.stack_code.specs.Needs.{expr_need, pieces_need}
 use Rattle.stack_code.specs.Pieces.{Piece, OfExpr, OfPlace, Does, Waits, Travels, cell_number, push}
@@ -49,11 +50,11 @@ use Rattle.stack_code.specs.declared.op.Op.TheVariants as ops
 use Rattle.stack_code.specs.declared.order_on.OrderOn.TheVariants as orders
 use Rattle.stack_code.specs.declared.tail_kind.TailKind.TheVariants as kinds
 use Rattle.code_laws.specs.Calls.{ExprCalls, PlaceCalls}
-use Rattle.code_laws.proofs.Alone.{signal_alone, store_alone, test_alone}
+use Rattle.code_laws.proofs.Alone.{load_alone, signal_alone, store_alone, test_alone}
 use Rattle.code_laws.proofs.Claims.{Claims}
 use Rattle.code_laws.proofs.CodeOf.{IsCodeOf}
 use Rattle.code_laws.proofs.InstructionSteps.{copy_then, done_by, done_by_two, expr_then, load_then, number_then, of_num, of_target, of_text, of_truth, place_then, read_then, settles}
-use Rattle.code_laws.proofs.InstructionsAlone.{aim_alone, bit_alone, defined_alone, order_alone, range_alone, still_alone, supervise_alone, tells_alone, tool_alone, write_alone}
+use Rattle.code_laws.proofs.InstructionsAlone.{aim_alone, bit_alone, defined_alone, order_alone, range_alone, still_alone, supervise_alone, tells_alone, tie_alone, tool_alone, write_alone}
 use Rattle.code_laws.proofs.Ops.{OpAt}
 use Rattle.code_laws.proofs.Past.{past_expr, past_place}
 use Rattle.code_laws.proofs.PlaceOps.{load_sim}
@@ -410,6 +411,42 @@ supervise_goes s code claims labels pc zone shape temporary ps calls others ther
     (λ p. shape_at p >>= λ held. supervise q old temporary held >> ready) others behind.1.1 (omega (arith, room))
     (λ p. load_then s (pc + place_size zone + 1 + 1 + place_size shape) (Mark old ∷ Place q ∷ []) p (λ d. shape_in d >>= defined) (λ held. supervise q old temporary held >> ready) last.0 (omega (arith, room))
     (λ d. supervised s (pc + place_size zone + 1 + 1 + place_size shape + 1) q old temporary d last.1.0 (omega (arith, room))))))))
+
+of_shape : {B : Type 0} (s : Spot) (x : Datum → Doing Conf) (k : Option Shape → Doing B) {next : B → Doing Conf} → ((held : Option Shape) → Sim s.target s.run (x (datums.Shape held)) (k held) next (failing s)) → (d : Datum)
+    → Sim s.target s.run (x d) (shape_in d >>= k) next (failing s)
+unfolding after
+of_shape s x k more (datums.Shape held) = more held
+of_shape s x k more d = sim_misfit
+
+-- a signal is tied to a shape that was defined
+tied : (s : Spot) (pc : ℕ) (q : Lvalue) (old : ℕ) (temporary : Bool) (held : Option Shape) (signal : ℕ) (v : Value) → OpAt s pc (ops.ZoneTie temporary signal) → 4 ≤ s.target.code.deepest
+    → Sim s.target s.run (standing s pc (Plain v ∷ datums.Shape held ∷ Mark old ∷ Place q ∷ [])) (bit_in v >>= λ b. tie q old temporary held signal b >> ready) (settles s (pc + 1)) (failing s)
+unfolding after
+tied s pc q old temporary held signal v there room =
+    done_by_two s pc (Plain v ∷ datums.Shape held ∷ Mark old ∷ Place q ∷ []) (ops.ZoneTie temporary signal) (bit_in v) (λ b. tie q old temporary held signal b) there room refl
+    (no_part_then (bit_in v) (λ b. tie q old temporary held signal b) (bit_alone v) (λ b. tie_alone q old temporary held signal b))
+
+pub tie_goes : (s : Spot) → IsCodeOf s.tree s.target → Claims s.target s.tree s.run → (labels : List ℕ) (pc : ℕ) (zone shape : TypedPlace) (signal : ℕ) (e : TypedExpr) (temporary : Bool) (ps : List Placed)
+    → PlaceCalls s.tree zone → PlaceCalls s.tree shape → ExprCalls s.tree e
+    → Goes s labels pc (OfPlace zone ∷ Does ops.Dup ∷ Does ops.Load ∷ OfPlace shape ∷ Does ops.Load ∷ OfExpr e ∷ Does (ops.ZoneTie temporary signal) ∷ []) ps
+    (place s.tree s.routine zone >>= λ q. number_at q >>= λ old. place s.tree s.routine shape >>= λ p. load p >>= λ d. shape_in d >>= λ held. bit s.tree s.routine e >>= λ b. tie q old temporary held signal b >> ready)
+unfolding pieces_code pieces_need pieces_size
+tie_goes s code claims labels pc zone shape signal e temporary ps zones shapes values there room =
+    let behind = past_place s.target.code s.tree s.routine s.own pc zone (pieces_code s.tree s.routine labels s.own (pc + place_size zone) (Does ops.Dup ∷ Does ops.Load ∷ OfPlace shape ∷ Does ops.Load ∷ OfExpr e ∷ Does (ops.ZoneTie temporary signal) ∷ []) ps) there in
+    let second = past_place s.target.code s.tree s.routine s.own (pc + place_size zone + 1 + 1) shape (pieces_code s.tree s.routine labels s.own (pc + place_size zone + 1 + 1 + place_size shape) (Does ops.Load ∷ OfExpr e ∷ Does (ops.ZoneTie temporary signal) ∷ []) ps) behind.1.1 in
+    let last = past_expr s.target.code s.tree s.routine s.own (pc + place_size zone + 1 + 1 + place_size shape + 1) e (pieces_code s.tree s.routine labels s.own (pc + place_size zone + 1 + 1 + place_size shape + 1 + expr_size e) (Does (ops.ZoneTie temporary signal) ∷ []) ps) second.1 in
+    settled s (standing s pc []) _ (pc + place_size zone + 1 + 1 + place_size shape + 1 + expr_size e + 1) (pc + (place_size zone + (1 + (1 + (place_size shape + (1 + (expr_size e + (1 + 0)))))))) (omega arith)
+    (place_then s code claims pc [] zone (pieces_code s.tree s.routine labels s.own (pc + place_size zone) (Does ops.Dup ∷ Does ops.Load ∷ OfPlace shape ∷ Does ops.Load ∷ OfExpr e ∷ Does (ops.ZoneTie temporary signal) ∷ []) ps)
+    (λ q. number_at q >>= λ old. place s.tree s.routine shape >>= λ p. load p >>= λ d. shape_in d >>= λ held. bit s.tree s.routine e >>= λ b. tie q old temporary held signal b >> ready) zones there (omega (arith, room))
+    (λ q. copy_then s (pc + place_size zone) [] (Place q) _ behind.0 (omega (arith, room))
+    (number_then s (pc + place_size zone + 1) (Place q ∷ []) q (λ old. place s.tree s.routine shape >>= λ p. load p >>= λ d. shape_in d >>= λ held. bit s.tree s.routine e >>= λ b. tie q old temporary held signal b >> ready) behind.1.0 (omega (arith, room))
+    (λ old. place_then s code claims (pc + place_size zone + 1 + 1) (Mark old ∷ Place q ∷ []) shape (pieces_code s.tree s.routine labels s.own (pc + place_size zone + 1 + 1 + place_size shape) (Does ops.Load ∷ OfExpr e ∷ Does (ops.ZoneTie temporary signal) ∷ []) ps)
+    (λ p. load p >>= λ d. shape_in d >>= λ held. bit s.tree s.routine e >>= λ b. tie q old temporary held signal b >> ready) shapes behind.1.1 (omega (arith, room))
+    (λ p. sim_op s (pc + place_size zone + 1 + 1 + place_size shape) (Place p ∷ Mark old ∷ Place q ∷ []) ops.Load second.0 (omega (arith, room)) (sim_same (load p) (load_alone p)
+    (of_shape s (λ d. standing s (pc + place_size zone + 1 + 1 + place_size shape + 1) (d ∷ Mark old ∷ Place q ∷ [])) (λ held. bit s.tree s.routine e >>= λ b. tie q old temporary held signal b >> ready)
+    (λ held. read_then s code claims (pc + place_size zone + 1 + 1 + place_size shape + 1) (datums.Shape held ∷ Mark old ∷ Place q ∷ []) e (pieces_code s.tree s.routine labels s.own (pc + place_size zone + 1 + 1 + place_size shape + 1 + expr_size e) (Does (ops.ZoneTie temporary signal) ∷ []) ps) bit_in
+    (λ b. tie q old temporary held signal b >> ready) values second.1 (omega (arith, room))
+    (λ v. tied s (pc + place_size zone + 1 + 1 + place_size shape + 1 + expr_size e) q old temporary held signal v last.0 (omega (arith, room))))) (λ n. sim_raises n)))))))
 
 -- counters
 

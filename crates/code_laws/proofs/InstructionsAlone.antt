@@ -10,7 +10,7 @@ use Rattle.rapid_model.specs.declared.answer.Answer.{Answer}
 use Rattle.rapid_model.specs.declared.answer.Answer.TheVariants as answers
 use Rattle.rapid_model.specs.declared.fate.Fault.TheVariants as faults
 use Rattle.rapid_model.specs.declared.request.Request.{Request}
-use Rattle.rapid_model.specs.declared.request.Request.TheVariants.{Position}
+use Rattle.rapid_model.specs.declared.request.Request.TheVariants.{Position, ZoneTie}
 use Rattle.rapid_model.specs.declared.value.Value.{Value}
 use Rattle.rapid_model.specs.declared.value.Value.TheVariants as values
 use Rattle.typed_trees.specs.declared.datum.Datum.TheVariants as datums
@@ -22,7 +22,7 @@ use Rattle.rapid_meaning.specs.Meetings.{when_arrived}
 use Rattle.rapid_meaning.specs.Moves.{aim, cap_of, still, when_located}
 use Rattle.rapid_meaning.specs.Signals.{when_written, write_signal}
 use Rattle.rapid_meaning.specs.Values.{bit_in, in_range, tool_speed_in}
-use Rattle.rapid_meaning.specs.Zones.{asks_of_zone, define, define_home, defined, home_high, home_low, on_axes, position_or_fault, shaped, supervise, when_numbered, when_zoned}
+use Rattle.rapid_meaning.specs.Zones.{asks_of_zone, define, define_home, defined, home_high, home_low, on_axes, position_or_fault, shaped, supervise, tie, when_numbered, when_zoned}
 use Rattle.code_laws.proofs.Alone.{ok_alone, store_alone}
 use Rattle.code_laws.proofs.Same.{NoPart, no_part_then}
 
@@ -91,6 +91,7 @@ numbered_alone : (p : Lvalue) (a : Answer) → NoPart (when_numbered p a)
 numbered_alone p (answers.Number n) = store_alone p (datums.Mark n)
 numbered_alone p answers.ZoneUsed = tt
 numbered_alone p answers.ZoneFull = tt
+numbered_alone p answers.Tied = tt
 numbered_alone p a = tt
 
 pub supervise_alone : (p : Lvalue) (old : ℕ) (temporary : Bool) (shape : Shape) → NoPart (supervise p old temporary shape)
@@ -99,6 +100,10 @@ supervise_alone p old temporary shape a = numbered_alone p a
 pub defined_alone : (shape : Option Shape) → NoPart (defined shape)
 defined_alone None = tt
 defined_alone (Some shape) = tt
+
+pub tie_alone : (p : Lvalue) (old : ℕ) (temporary : Bool) (held : Option Shape) (signal : ℕ) (value : Bool) → NoPart (tie p old temporary held signal value)
+tie_alone p old temporary held signal value =
+    no_part_then (defined held) (λ shape. Asks (ZoneTie old temporary shape signal value) (when_numbered p)) (defined_alone held) (λ shape a. numbered_alone p a)
 
 shaped_alone : (p : Lvalue) (r : Result Shape ShapeFault) → NoPart (shaped p r)
 shaped_alone p (Ok shape) = store_alone p (datums.Shape (Some shape))

@@ -54,3 +54,5 @@ mod Parts
 mod PartCompiles
 mod Examples
 pub mod Lives
+pub mod ArmlessExprs
+pub mod Armless

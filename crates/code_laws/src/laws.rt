@@ -1,4 +1,4 @@
-ghost use Rattle.std.specs.Prelude.{All, Bool, List, length, ℕ, ◌↔◌, ◌≡◌};
+ghost use Rattle.std.specs.Prelude.{All, Bool, IsTrue, List, length, ℕ, ◌↔◌, ◌≡◌};
 ghost use Rattle.rapid_model.specs.CellData.{CellData};
 ghost use Rattle.rapid_model.specs.declared.answer.Answer.{Answer};
 ghost use Rattle.typed_trees.specs.Plain.{TypedExpr, TypedRoutine, TypedTree};
@@ -15,6 +15,7 @@ ghost use Rattle.stack_code.specs.Placed.{Own, Placed, StandsAt};
 ghost use Rattle.code_laws.specs.Calls.{Takes};
 ghost use Rattle.code_laws.specs.Parts.{CallDoes, ExprDoes, ExprStands};
 ghost use Rattle.code_laws.specs.Routines.{HasRoutines, extended};
+ghost use Rattle.task_code.specs.Armless.{is_armless};
 ghost use Rattle.task_code.specs.Live.{CodeFits, IsLive};
 ghost use Rattle.code_laws.specs.Checked.{IsChecked};
 
@@ -62,4 +63,9 @@ pub fn compiled_code_is_live()
     ensures live { (tree : TypedTree) → IsChecked tree → IsLive (compiled tree) }
     ensures fits { (tree : TypedTree) (answers : List Answer) → IsChecked tree → CodeFits (compiled tree) answers ↔ FitsSteps tree answers }
     ensures stands { (tree : TypedTree) (answers : List Answer) → IsChecked tree → FitsSteps tree answers → (k : ℕ) × StandsBy tree answers k }
+{}
+
+/// A law: in the code of a well typed tree of a task without an arm, no operation needs one.
+pub fn code_without_an_arm_needs_none()
+    ensures { (signals : ℕ) (tree : TypedTree) → WellTyped signals tree → tree.axes ≡ 0 → IsTrue (is_armless (compiled tree).ops) }
 {}

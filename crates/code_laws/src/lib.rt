@@ -6,7 +6,7 @@
 mod laws;
 
 pub use laws::{
-    compiled_code_asks_as_its_tree, compiled_code_has_its_routines, compiled_code_is_live,
-    expression_code_does_as_its_expression, routine_code_does_as_its_routine,
-    well_typed_trees_are_orderly,
+    code_without_an_arm_needs_none, compiled_code_asks_as_its_tree, compiled_code_has_its_routines,
+    compiled_code_is_live, expression_code_does_as_its_expression,
+    routine_code_does_as_its_routine, well_typed_trees_are_orderly,
 };

@@ -87,6 +87,7 @@ fn piece_of<'a>(
         Step::Arrive(number) => does(arrival(context, meeting_at(args, number)?)),
         Step::Shape(home) => does(Op::Shape(has(b"Inside", options), home)),
         Step::ZoneSet => does(Op::ZoneSet(has(b"Temp", options))),
+        Step::ZoneTie(number) => does(zone_tie(signal_at(args, number)?, options)),
         Step::Tail => Some(Piece::Expr(tail_in(options)?)),
         Step::Say => does(Op::Say(tail_kind_in(options)?)),
     }
@@ -115,6 +116,13 @@ fn pers_order(context: &Context<'_>, watched: &TreePlace, options: &[&Arg]) -> O
         _ => 0,
     };
     Op::Order(OrderOn::Pers(pers), has(b"Single", options))
+}
+
+/// Ties a signal to a shape.
+fn zone_tie(signal: u32, options: &[&Arg]) -> Op
+    ensures { result ≡ Pieces.tie_of signal (view_args options.now) }
+{
+    Op::ZoneTie(has(b"Temp", options), signal)
 }
 
 /// Pushes the set of the tasks that an array names.

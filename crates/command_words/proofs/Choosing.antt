@@ -36,30 +36,34 @@ run_verb verbs.Round full every second is = cc
 run_verb verbs.Run full every second is = refl
 run_verb verbs.List full every second is = cc
 run_verb verbs.Load full every second is = absurd (no_run (moves_of second) every is)
+run_verb verbs.Audit full every second is = cc
 
--- the word, by which of the five it is
-abbrev by_tests : Bool → Bool → Bool → Bool → Bool → Option Verb
-by_tests check round run list load =
+-- the word, by which of the six it is
+abbrev by_tests : Bool → Bool → Bool → Bool → Bool → Bool → Option Verb
+by_tests check round run list load audit =
     if check then Some verbs.Check
     else if round then Some verbs.Round
     else if run then Some verbs.Run
     else if list then Some verbs.List
     else if load then Some verbs.Load
+    else if audit then Some verbs.Audit
     else None
 
-other : (check round list load : Bool) (verb : Verb) → by_tests check round false list load ≡ Some verb → verb ≢ verbs.Run
-other true round list load verb is = λ run. let e : Some verbs.Check ≡ Some verbs.Run = is ∙ ap Some run in cc
-other false true list load verb is = λ run. let e : Some verbs.Round ≡ Some verbs.Run = is ∙ ap Some run in cc
-other false false true load verb is = λ run. let e : Some verbs.List ≡ Some verbs.Run = is ∙ ap Some run in cc
-other false false false true verb is = λ run. let e : Some verbs.Load ≡ Some verbs.Run = is ∙ ap Some run in cc
-other false false false false verb is = λ run. let e : None ≡ Some verbs.Run = is ∙ ap Some run in cc
+other : (check round list load audit : Bool) (verb : Verb) → by_tests check round false list load audit ≡ Some verb → verb ≢ verbs.Run
+other true round list load audit verb is = λ run. let e : Some verbs.Check ≡ Some verbs.Run = is ∙ ap Some run in cc
+other false true list load audit verb is = λ run. let e : Some verbs.Round ≡ Some verbs.Run = is ∙ ap Some run in cc
+other false false true load audit verb is = λ run. let e : Some verbs.List ≡ Some verbs.Run = is ∙ ap Some run in cc
+other false false false true audit verb is = λ run. let e : Some verbs.Load ≡ Some verbs.Run = is ∙ ap Some run in cc
+other false false false false true verb is = λ run. let e : Some verbs.Audit ≡ Some verbs.Run = is ∙ ap Some run in cc
+other false false false false false verb is = λ run. let e : None ≡ Some verbs.Run = is ∙ ap Some run in cc
 
 -- the first of these words is not `run`
 no_first : (words : List (List ℕ)) (verb : Verb) → first_verb words ≡ Some verb → begins_with_run words ≡ false → verb ≢ verbs.Run
 no_first [] verb is other_word = λ run. let e : None ≡ Some verb = is in cc
 no_first (word ∷ rest) verb is other_word =
-    other (bytes_eq word (codes "check")) (bytes_eq word (codes "round")) (bytes_eq word (codes "list")) (bytes_eq word (codes "load")) verb
-    (subst (λ (b : Bool). by_tests (bytes_eq word (codes "check")) (bytes_eq word (codes "round")) b (bytes_eq word (codes "list")) (bytes_eq word (codes "load")) ≡ Some verb) other_word is)
+    other (bytes_eq word (codes "check")) (bytes_eq word (codes "round")) (bytes_eq word (codes "list")) (bytes_eq word (codes "load")) (bytes_eq word (codes "audit")) verb
+    (subst (λ (b : Bool). by_tests (bytes_eq word (codes "check")) (bytes_eq word (codes "round")) b (bytes_eq word (codes "list")) (bytes_eq word (codes "load")) (bytes_eq word (codes "audit")) ≡ Some verb)
+    other_word is)
 
 pub not_run : (words : List (List ℕ)) (action : Action) → asked words ≡ Some action → is_run words ≡ false → (full : Bool) → action ≢ actions.Run full
 not_run words action is other_word = λ full same.
@@ -106,6 +110,7 @@ load_moves verbs.Round full second moves is = cc
 load_moves verbs.Run full second moves is = cc
 load_moves verbs.List full second moves is = cc
 load_moves verbs.Load full second moves is = are_moves second moves (number (moves_of second) moves is)
+load_moves verbs.Audit full second moves is = cc
 
 pub asked_moves : (words : List (List ℕ)) (action : Action) → asked words ≡ Some action → (moves : ℕ) → action ≡ actions.Load moves → AreMoves moves
 asked_moves words action is = λ moves same.

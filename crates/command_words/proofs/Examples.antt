@@ -5,7 +5,7 @@ use Rattle.std.specs.Fmt.{digits}
 use Rattle.std.proofs.lemmas.Str.{IsUtf8-from_ascii}
 use Rattle.command_words.specs.declared.command.Action.TheVariants as actions
 use Rattle.command_words.specs.Words.{asked, is_run, refused_place}
-use Rattle.command_words.proofs.Texts.{text_name}
+use Rattle.command_words.proofs.Texts.{text_names}
 
 -- words that ask for `run`, refused or not, and others
 run_cell : is_run (codes "run" ∷ codes "c" ∷ []) ≡ true
@@ -58,9 +58,22 @@ load_without = refl
 load_too_many : refused_place (codes "load" ∷ codes "0" ∷ codes "1" ∷ []) ≡ Some 2
 load_too_many = refl
 
+-- `audit` takes a third word, and no fourth
+audit_asked : asked (codes "audit" ∷ codes "c" ∷ codes "h" ∷ []) ≡ Some actions.Audit
+audit_asked = refl
+
+audit_without : refused_place (codes "audit" ∷ codes "--history" ∷ codes "c" ∷ []) ≡ Some 3
+audit_without = refl
+
+audit_too_many : refused_place (codes "audit" ∷ codes "c" ∷ codes "h" ∷ codes "--history" ∷ codes "h" ∷ []) ≡ Some 4
+audit_too_many = refl
+
+audit_taken : refused_place (codes "audit" ∷ codes "c" ∷ codes "h" ∷ []) ≡ None
+audit_taken = text_names (codes "audit" ∷ codes "c" ∷ codes "h" ∷ []) (IsUtf8-from_ascii (codes "c") (search rules)) (IsUtf8-from_ascii (codes "h") (search rules))
+
 -- a name that is text, and words that are not, before other causes
 text_taken : refused_place (codes "round" ∷ codes "c" ∷ []) ≡ None
-text_taken = text_name (codes "round" ∷ codes "c" ∷ []) (IsUtf8-from_ascii (codes "c") (search rules))
+text_taken = text_names (codes "round" ∷ codes "c" ∷ []) (IsUtf8-from_ascii (codes "c") (search rules)) (IsUtf8-from_ascii [] (search rules))
 
 no_text_action : refused_place ((255 ∷ []) ∷ codes "c" ∷ []) ≡ Some 0
 no_text_action = refl

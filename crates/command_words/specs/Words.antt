@@ -37,7 +37,13 @@ verb_of word =
     else if bytes_eq word (codes "run") then Some verbs.Run
     else if bytes_eq word (codes "list") then Some verbs.List
     else if bytes_eq word (codes "load") then Some verbs.Load
+    else if bytes_eq word (codes "audit") then Some verbs.Audit
     else None
+
+-- how many words an action has, its own among them
+abbrev pub word_count : Verb → ℕ
+word_count verbs.Audit = 3
+word_count _ = 2
 
 -- the word is this number, in digits without leading zeros, and an arm of the load cell may move so often
 abbrev pub is_moves : List ℕ → ℕ → Bool
@@ -59,6 +65,7 @@ action_of verbs.Round full word = Some (actions.Round full)
 action_of verbs.Run full word = Some (actions.Run full)
 action_of verbs.List full word = Some actions.List
 action_of verbs.Load full word = option_map (λ moves. actions.Load moves) (moves_of word)
+action_of verbs.Audit full word = Some actions.Audit
 
 -- the action and its words
 abbrev pub plain_words : List (List ℕ) → List (List ℕ)
@@ -73,6 +80,13 @@ abbrev pub second_word : List (List ℕ) → List ℕ
 second_word [] = []
 second_word (action ∷ []) = []
 second_word (action ∷ name ∷ rest) = name
+
+-- the third one
+abbrev pub third_word : List (List ℕ) → List ℕ
+third_word [] = []
+third_word (action ∷ []) = []
+third_word (action ∷ name ∷ []) = []
+third_word (action ∷ name ∷ last ∷ rest) = last
 
 -- whether `--history` is among the words
 abbrev pub has_history : List (List ℕ) → Bool
@@ -95,9 +109,14 @@ is_run words = begins_with_run (plain_words words)
 abbrev pub unknown_action : List (List ℕ) → Option ℕ
 unknown_action words = if is_some (first_verb (plain_words words)) then None else slice_get (places is_plain 0 words) 0
 
--- the number of all words, if the action or its second word is missing
-abbrev pub missing_word : List (List ℕ) → Option ℕ
-missing_word words = if nat_lt (length (plain_words words)) 2 then Some (length words) else None
+-- the number of all words, if one of this many is missing
+abbrev pub missing_of : ℕ → List (List ℕ) → Option ℕ
+missing_of count words = if nat_lt (length (plain_words words)) count then Some (length words) else None
+
+-- the same for the words of an action, or the position of the first one too many
+abbrev pub wrong_count : Option Verb → List (List ℕ) → Option ℕ
+wrong_count None words = missing_of 2 words
+wrong_count (Some verb) words = option_or (missing_of (word_count verb) words) (slice_get (places is_plain 0 words) (word_count verb))
 
 -- the position of the second word of the action, if that is `load` and the word is not such a number
 abbrev pub wrong_number : List (List ℕ) → Option ℕ
@@ -108,15 +127,21 @@ wrong_number words = if is_some (asked words) then None else slice_get (places i
 abbrev pub wrong_word : List (List ℕ) → Option ℕ
 wrong_word words =
     option_or (position is_wrong_option words) (option_or (slice_get (places is_history 0 words) 1)
-    (option_or (unknown_action words) (option_or (missing_word words) (option_or (slice_get (places is_plain 0 words) 2) (wrong_number words)))))
+    (option_or (unknown_action words) (option_or (wrong_count (first_verb (plain_words words)) words) (wrong_number words))))
 
 -- the name of the script's file, for `load` the number
 abbrev pub script_name : List (List ℕ) → List ℕ
 script_name words = second_word (plain_words words)
 
--- the position of the second word of the action, if it is not valid UTF-8: no file has such a name
+-- the name of the history's file, for `audit`
+abbrev pub history_name : List (List ℕ) → List ℕ
+history_name words = third_word (plain_words words)
+
+-- the position of the first of these names that is not valid UTF-8: no file has such a name
 abbrev pub no_text : List (List ℕ) → Option ℕ
-no_text words = if is_utf8 (script_name words) then None else slice_get (places is_plain 0 words) 1
+no_text words =
+    if is_utf8 (script_name words) then (if is_utf8 (history_name words) then None else slice_get (places is_plain 0 words) 2)
+    else slice_get (places is_plain 0 words) 1
 
 -- the position of the refused word: one that is wrong, or else a name that is not valid UTF-8
 abbrev pub refused_place : List (List ℕ) → Option ℕ

@@ -1,5 +1,5 @@
-ghost use Rattle.std.specs.Prelude.{◌≡◌, IfOk, IfErr, Some, None, map, position, filter, slice_get, option_map, codes, bytes_eq};
-ghost use Rattle.command_words.specs.Words.{begins_with_minus, is_history, is_plain, is_wrong_option, places, verb_of, action_of, has_history, asked, is_run, wrong_word, refused_place, script_name};
+ghost use Rattle.std.specs.Prelude.{◌≡◌, ◌⊎◌, [], IfOk, IfErr, Some, None, map, position, filter, slice_get, option_map, codes, bytes_eq};
+ghost use Rattle.command_words.specs.Words.{begins_with_minus, is_history, is_plain, is_wrong_option, places, plain_words, verb_of, action_of, has_history, history_name, asked, is_run, wrong_count, wrong_word, refused_place, script_name};
 ghost use Rattle.command_words.specs.Picked.{is_kind};
 
 use crate::moves::moves_of;
@@ -19,6 +19,8 @@ pub enum Action {
     List,
     /// Runs the load cell round-robin, where each arm moves this many times, and prints a summary of the run.
     Load { moves: u32 },
+    /// Checks whether a printed history is one that the cell can have.
+    Audit,
 }
 
 /// The word of an action.
@@ -29,13 +31,26 @@ pub(crate) enum Verb {
     Run,
     List,
     Load,
+    Audit,
 }
 
-/// The action, and the name of the script's file; for `load`, the word of its number instead.
+/// The action, and the name of the script's file; for `load`, the word of its number instead. For `audit` also the name
+/// of the history's file, which is empty otherwise.
 #[derive(Clone, Copy, Debug)]
 pub struct Command<'a> {
     pub action: Action,
     pub script: &'a str,
+    pub history: &'a str,
+}
+
+/// The action, its second word and its third, which is empty if it takes none, with their positions.
+#[derive(Clone, Copy)]
+pub(crate) struct Asked<'a> {
+    pub action: Action,
+    pub script: &'a [u8],
+    pub script_at: usize,
+    pub history: &'a [u8],
+    pub history_at: usize,
 }
 
 /// What the command words ask for, or the position, from 0, of the refused word. Takes no memory.
@@ -43,24 +58,35 @@ pub fn read_words<W: AsSlice<u8>>(words: &[W]) -> Result<Command<'_>, usize>
     ensures taken { IfOk result (λ _. refused_place (map W.items words.now) ≡ None) }
     ensures action { IfOk result (λ command. asked (map W.items words.now) ≡ Some command.action) }
     ensures name { IfOk result (λ command. command.script.now ≡ script_name (map W.items words.now)) }
+    ensures history { IfOk result (λ command. command.history.now ≡ history_name (map W.items words.now)) }
     ensures refused { IfErr result (λ place. refused_place (map W.items words.now) ≡ Some place) }
 {
     match asked_words(words) {
-        Ok((action, place, name)) => match str::from_utf8(name) {
-            Ok(script) => Ok(Command { action, script }),
-            Err(_) => Err(place),
-        },
+        Ok(found) => {
+            let Ok(script) = str::from_utf8(found.script) else {
+                return Err(found.script_at);
+            };
+            match str::from_utf8(found.history) {
+                Ok(history) => Ok(Command {
+                    action: found.action,
+                    script,
+                    history,
+                }),
+                Err(_) => Err(found.history_at),
+            }
+        }
         Err(place) => Err(place),
     }
 }
 
-/// The action, and its second word with its position; or the position of the word that is refused, whether or not the
-/// second word is text.
-fn asked_words<W: AsSlice<u8>>(words: &[W]) -> Result<(Action, usize, &[u8]), usize>
+/// The action and its words, or the position of the word that is refused, whether or not they are text.
+fn asked_words<W: AsSlice<u8>>(words: &[W]) -> Result<Asked<'_>, usize>
     ensures taken { IfOk result (λ _. wrong_word (map W.items words.now) ≡ None) }
-    ensures action { IfOk result (λ found. asked (map W.items words.now) ≡ Some found.0) }
-    ensures place { IfOk result (λ found. slice_get (places is_plain 0 (map W.items words.now)) 1 ≡ Some found.1) }
-    ensures name { IfOk result (λ found. found.2.now ≡ script_name (map W.items words.now)) }
+    ensures action { IfOk result (λ found. asked (map W.items words.now) ≡ Some found.action) }
+    ensures place { IfOk result (λ found. slice_get (places is_plain 0 (map W.items words.now)) 1 ≡ Some found.script_at) }
+    ensures name { IfOk result (λ found. found.script.now ≡ script_name (map W.items words.now)) }
+    ensures last { IfOk result (λ found. slice_get (places is_plain 0 (map W.items words.now)) 2 ≡ Some found.history_at ⊎ (found.history.now ≡ [])) }
+    ensures history { IfOk result (λ found. found.history.now ≡ history_name (map W.items words.now)) }
     ensures refused { IfErr result (λ place. wrong_word (map W.items words.now) ≡ Some place) }
 {
     if let Some(place) = option_place(words) {
@@ -75,15 +101,60 @@ fn asked_words<W: AsSlice<u8>>(words: &[W]) -> Result<(Action, usize, &[u8]), us
     let Some(verb) = verb_of(word) else {
         return Err(place);
     };
-    let Some((at, second)) = nth_word(words, false, 1) else {
+    let (script_at, script) = match second_word(words, verb) {
+        Ok(second) => second,
+        Err(place) => return Err(place),
+    };
+    let (history_at, history) = third_word(words);
+    match action_of(verb, has_history(words), script) {
+        Some(action) => Ok(Asked {
+            action,
+            script,
+            script_at,
+            history,
+            history_at,
+        }),
+        None => Err(script_at),
+    }
+}
+
+/// The second word of an action and its position; or the number of words if one is missing, or the position of the
+/// first one too many.
+fn second_word<W: AsSlice<u8>>(words: &[W], verb: Verb) -> Result<(usize, &[u8]), usize>
+    ensures taken { IfOk result (λ _. wrong_count (Some verb) (map W.items words.now) ≡ None) }
+    ensures place { IfOk result (λ found. slice_get (places is_plain 0 (map W.items words.now)) 1 ≡ Some found.0) }
+    ensures word { IfOk result (λ found. slice_get (plain_words (map W.items words.now)) 1 ≡ Some found.1.now) }
+    ensures refused { IfErr result (λ place. wrong_count (Some verb) (map W.items words.now) ≡ Some place) }
+{
+    let Some(second) = nth_word(words, false, 1) else {
         return Err(words.len());
     };
-    if let Some((more, _)) = nth_word(words, false, 2) {
-        return Err(more);
+    let third = nth_word(words, false, 2);
+    match verb {
+        Verb::Audit => {
+            if third.is_none() {
+                return Err(words.len());
+            }
+            match nth_word(words, false, 3) {
+                Some((more, _)) => Err(more),
+                None => Ok(second),
+            }
+        }
+        _ => match third {
+            Some((more, _)) => Err(more),
+            None => Ok(second),
+        },
     }
-    match action_of(verb, has_history(words), second) {
-        Some(action) => Ok((action, at, second)),
-        None => Err(at),
+}
+
+/// The third word of an action and its position, or an empty word if there is none.
+fn third_word<W: AsSlice<u8>>(words: &[W]) -> (usize, &[u8])
+    ensures place { slice_get (places is_plain 0 (map W.items words.now)) 2 ≡ Some result.0 ⊎ (result.1.now ≡ []) }
+    ensures word { result.1.now ≡ history_name (map W.items words.now) }
+{
+    match nth_word(words, false, 2) {
+        Some(third) => third,
+        None => (0, b""),
     }
 }
 
@@ -176,6 +247,8 @@ fn verb_of(word: &[u8]) -> Option<Verb>
         Some(Verb::List)
     } else if word == b"load".as_slice() {
         Some(Verb::Load)
+    } else if word == b"audit".as_slice() {
+        Some(Verb::Audit)
     } else {
         None
     }
@@ -191,5 +264,6 @@ fn action_of(verb: Verb, full: bool, second: &[u8]) -> Option<Action>
         Verb::Run => Some(Action::Run { full }),
         Verb::List => Some(Action::List),
         Verb::Load => moves_of(second).map(|moves| Action::Load { moves }),
+        Verb::Audit => Some(Action::Audit),
     }
 }

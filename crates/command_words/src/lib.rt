@@ -1,5 +1,5 @@
-//! What the command words ask for: an action and the name of a script's file, or the position of the word that is
-//! refused. Words are bytes.
+//! What the command words ask for: an action and the names of the files that it reads first and last, or the position of
+//! the word that is refused. Words are bytes.
 #![tactic(auto)]
 
 mod command;

@@ -61,7 +61,7 @@ are_checked script (task ∷ tasks) reads trees spelled is =
     (λ ts behind. are_checked script tasks (drop count reads) ts (All-drop IsSpelled count reads spelled) behind)
 
 -- the cell is made of the trees
-made_of_trees : (script : ScriptData) (reads : List ReadModule) (making : Making MadeCell) (made : MadeCell) → cell_or_refused script reads making ≡ Ok made → making ≡ Ok made
+pub made_of_trees : (script : ScriptData) (reads : List ReadModule) (making : Making MadeCell) (made : MadeCell) → cell_or_refused script reads making ≡ Ok made → making ≡ Ok made
 made_of_trees script reads (Ok m) made is = let same : m ≡ made = cc in ap Ok same
 made_of_trees script reads (Err broken) made is = cc
 

@@ -1,17 +1,20 @@
 -- What a refusal of a file says of the words and the sinks: nothing of the words, of reads what was counted, nothing of
 -- writes.
 use Rattle.std.proofs.Common.{◌≡◌, ◌≢◌, ℕ, ◌≤◌, List, [], ◌∷◌, Some, None, sym, ◌∙◌, subst, inl, inr}
-use Rattle.std.specs.Prelude.{Option, ◌↔◌, IfSome}
+use Rattle.std.specs.Prelude.{Option, ◌↔◌, IfSome, length}
 use Rattle.std.proofs.lemmas.Option.{IfSome_then}
 use Rattle.outside.specs.Count.{Rose}
 use Rattle.outside.proofs.Counting.{Rose-since}
 use Rattle.rapid_model.specs.CellData.{CellData}
+use Rattle.rapid_model.specs.declared.event.Event.{Event}
+use Rattle.rapid_model.specs.declared.fate.Fate.{Fate}
 use Rattle.typed_trees.specs.Plain.{TypedTree}
 use Rattle.controller.specs.declared.refused.Refused.{Refused}
-use Rattle.controller.specs.declared.refused.Refused.TheVariants.{Words, Script, Module, Read, Write, Memory, TooLong}
+use Rattle.controller.specs.declared.refused.Refused.TheVariants.{Words, Script, Module, Read, Write, Memory, TooLong, History}
 use Rattle.controller.specs.declared.report.Report.{Report}
 use Rattle.controller.specs.declared.shown.Shown.{Shown}
-use Rattle.controller.specs.Answered.{AnswersAccepted, ListsOrMemory, RunsOrMemory, PrintsBy, accepted_line, run_lines}
+use Rattle.controller.specs.Answered.{AnswersAccepted, AuditsOrMemory, ListsOrMemory, RunsOrMemory, PrintsBy, accepted_line, run_lines}
+use Rattle.controller.specs.Audits.{audit_line, audit_status}
 use Rattle.controller.specs.Files.{IsDoneFault, IsLoadFault}
 use Rattle.controller.specs.Printed.{Sunk}
 use Rattle.command_words.specs.Words.{refused_place}
@@ -48,6 +51,7 @@ fault_since start old new told before rise fault = IfSome_then told {P = IsLoadF
     since Write f = f
     since Memory f = f
     since (TooLong file) f = f
+    since (History line) f = f
 
 pub no_write : (old new : ℕ) (told : Option Refused) → IfSome told (IsLoadFault old new) → told ≢ Some Write
 no_write old new told fault = λ same. told_is (IsLoadFault old new) told Write fault same
@@ -74,6 +78,13 @@ run_told Run shown cell report out err (inr answered) = printed_told (run_status
 pub list_told : (cell : CellData) (trees : List TypedTree) (report : Report) (out err : Sunk) → ListsOrMemory cell trees report out err → IfSome report.refused (IsDoneFault out.old.faults out.new.faults)
 list_told cell trees report out err (inl memory) = subst (λ (o : Option Refused). IfSome o (IsDoneFault out.old.faults out.new.faults)) (sym memory.refused_is) tt
 list_told cell trees report out err (inr answered) = printed_told 0 (listing_of cell answered.0) report out err answered.3
+
+-- why an audit is refused
+pub audit_told : (cell : CellData) (trees : List TypedTree) (events : List Event) (fates : List Fate) (report : Report) (out err : Sunk) → AuditsOrMemory cell trees events fates report out err
+    → IfSome report.refused (IsDoneFault out.old.faults out.new.faults)
+audit_told cell trees events fates report out err (inl memory) = subst (λ (o : Option Refused). IfSome o (IsDoneFault out.old.faults out.new.faults)) (sym memory.refused_is) tt
+audit_told cell trees events fates report out err (inr answered) =
+    printed_told (audit_status answered.0) (audit_line cell.tasks (length events) answered.0 ∷ []) report out err answered.3
 
 -- why reporting that all is accepted is refused
 pub accepted_told : (report : Report) (out err : Sunk) → AnswersAccepted report out err → IfSome report.refused (IsDoneFault out.old.faults out.new.faults)

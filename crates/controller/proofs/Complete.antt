@@ -9,8 +9,9 @@ use Rattle.rapid_model.specs.declared.event.Event.{Event}
 use Rattle.cell_meaning.specs.Fates.{all_ended, fates_after, is_spent}
 use Rattle.controller.specs.declared.refused.Refused.TheVariants.{Write}
 use Rattle.controller.specs.declared.report.Report.{Report}
-use Rattle.controller.specs.Accepted.{Accepted, Verdict, accepts, lists, refuses, runs, runs_free}
+use Rattle.controller.specs.Accepted.{Accepted, Verdict, accepts, audits, lists, refuses, runs, runs_free}
 use Rattle.controller.specs.Answered.{Answers, AnswersWords, IsOutOfMemory, IsPrinted, accepted_line, run_lines}
+use Rattle.controller.specs.Audits.{audit_line, audit_status}
 use Rattle.controller.specs.Complete.{IsComplete, IsDone}
 use Rattle.controller.specs.Files.{told_reads}
 use Rattle.controller.specs.Printed.{Sunk}
@@ -28,6 +29,8 @@ carried_out (accepts names) report out err whole is = whole_status 0 (accepted_l
 carried_out (runs names shown cell trees) report out err whole is = whole_status (run_status cell report.history.items) (run_lines shown cell report) report out err whole is.1
 carried_out (runs_free names shown cell trees) report out err whole is = whole_status (run_status cell report.history.items) (run_lines shown cell report) report out err whole is.1
 carried_out (lists names cell trees) report out err whole is = whole_status 0 (listing_of cell is.0) report out err whole is.3
+carried_out (audits names cell trees events fates) report out err whole is =
+    (is.0, is.1, whole_status (audit_status is.0) (audit_line cell.tasks (length events) is.0 ∷ []) report out err whole is.3)
 
 -- what answers the words and the files carries out what they come to
 pub done : (words : List (List ℕ)) (told : Option Told) (report : Report) (out err : Sunk) → AnswersWords words told report out err → (report.refused ≡ Some Write → Rose out.old.faults out.new.faults)

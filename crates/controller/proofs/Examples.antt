@@ -1,6 +1,6 @@
 -- The definitions on examples worked by hand.
 use Rattle.std.proofs.Common.{◌≡◌, ℕ, List, [], ◌∷◌, refl, sym, subst, arith, rules}
-use Rattle.std.specs.Prelude.{codes, pos, true, false, Option, Some, None}
+use Rattle.std.specs.Prelude.{codes, pos, true, false, Option, Some, None, Ok, Err}
 use Rattle.std.proofs.lemmas.Str.{IsUtf8-from_ascii}
 use Rattle.std.specs.Fmt.{digits}
 use Rattle.outside.specs.Told.{Told}
@@ -12,14 +12,20 @@ use Rattle.rapid_model.specs.declared.fate.Fate.TheVariants as fates
 use Rattle.rapid_model.specs.declared.request.Request.TheVariants as requests
 use Rattle.rapid_model.specs.declared.sort.Sort.TheVariants as sorts
 use Rattle.rapid_model.specs.declared.value.Value.TheVariants as values
+use Rattle.rapid_model.specs.declared.task_row.TaskRow.{TaskRow}
 use Rattle.rapid_model.specs.declared.zone_name.ZoneName.TheVariants.{Own}
 use Rattle.cell_meaning.proofs.ExampleCell.{joints_at}
-use Rattle.controller.specs.declared.refused.Refused.TheVariants.{Words, Read}
+use Rattle.history_audit.specs.declared.audit_fault.AuditFault.TheVariants as faults
+use Rattle.history_audit.specs.declared.wrong.Wrong.TheVariants as wrongs
+use Rattle.command_words.specs.declared.command.Action.TheVariants as actions
+use Rattle.controller.specs.declared.refused.Refused.TheVariants.{Words, Read, History}
 use Rattle.controller.specs.declared.shown.Shown.TheVariants as shows
 use Rattle.controller.specs.LoadFiles.{load_reads}
 use Rattle.controller.specs.Output.{output_of, whole_path}
 use Rattle.controller.specs.Files.{Reads, told_reads}
-use Rattle.controller.specs.Accepted.{refuses, Accepted, WordsDecide}
+use Rattle.controller.specs.Accepted.{refuses, Accepted, ActionReads, WordsDecide}
+use Rattle.controller.specs.Audits.{audit_line, audit_status}
+use Rattle.controller.specs.Refusals.{refusal_line}
 use Rattle.command_words.proofs.Texts.{taken}
 use Rattle.controller.specs.Sends.{Leaves, Sends, SendsLines, SendsSome}
 
@@ -104,12 +110,26 @@ script_not_read : Accepted check_c nothing_read (refuses (codes "c" ∷ []) (Rea
 unfolding nothing_read
 script_not_read = record {
   decides = subst (λ (place : Option ℕ). WordsDecide nothing_read check_c place (refuses (codes "c" ∷ []) (Read 0)))
-      (sym (taken check_c (codes "c") refl refl (IsUtf8-from_ascii (codes "c") (search rules)))) refl;
+      (sym (taken check_c (codes "c") [] refl refl refl (IsUtf8-from_ascii (codes "c") (search rules)) (IsUtf8-from_ascii [] (search rules)))) refl;
+}
+
+-- the same before a history
+abbrev audit_h : List (List ℕ)
+audit_h = codes "audit" ∷ codes "c" ∷ codes "h" ∷ []
+
+script_before_history : Accepted audit_h nothing_read (refuses (codes "c" ∷ []) (Read 0))
+unfolding nothing_read
+script_before_history = record {
+  decides = subst (λ (place : Option ℕ). WordsDecide nothing_read audit_h place (refuses (codes "c" ∷ []) (Read 0)))
+      (sym (taken audit_h (codes "c") (codes "h") refl refl refl (IsUtf8-from_ascii (codes "c") (search rules)) (IsUtf8-from_ascii (codes "h") (search rules)))) refl;
 }
 
 -- the script's name is missing
 no_name : (gave : Reads) → Accepted (codes "check" ∷ []) gave (refuses [] (Words 1))
 no_name gave = record { decides = refl }
+
+no_history : (gave : Reads) → Accepted (codes "audit" ∷ codes "c" ∷ []) gave (refuses [] (Words 2))
+no_history gave = record { decides = refl }
 
 -- the second module of the load cell, and a name that no module has
 second_module : load_reads 1 2 (codes "l2.mod") ≡ Some (codes "MODULE Load\nPERS num total := 0;\nVAR jointtarget j := [[0,0,0,0,0,0],[9E9,9E9,9E9,9E9,9E9,9E9]];\nPROC main()\nFOR i FROM 1 TO 1 DO\nj.robax.rax_1 := (i * 37 + 2 * 11) MOD 90;\nMoveAbsJ j\\NoEOffs, v1000, fine, tool0;\ntotal := total + 1;\nENDFOR\nENDPROC\nENDMODULE\n")
@@ -158,3 +178,50 @@ in_sum = refl
 nothing_kept : output_of shows.Summary (record small_cell { pers = [] }) [] (fates.Cut ∷ []) ≡ codes "L events 0\nL setpoints 0\nL total \nE A Cut\n"
 unfolding digits small_cell
 nothing_kept = refl
+
+-- the history is the file after the script and its module
+history_not_read : ActionReads (Some actions.Audit) nothing_read (codes "h") (codes "c" ∷ codes "m" ∷ []) (record { cell = small_cell; trees = [] })
+    (refuses (codes "c" ∷ codes "m" ∷ codes "h" ∷ []) (Read 2))
+unfolding nothing_read
+history_not_read = refl
+
+-- the third line starts no history
+third_line : refusal_line (codes "c" ∷ codes "m" ∷ codes "h" ∷ []) (History 3) ≡ codes "rapid_cell: history 3\n"
+unfolding digits
+third_line = refl
+
+-- what is printed of a history of the tasks A and B
+
+two_rows : List TaskRow
+two_rows = record { name = codes "A"; arm = None; axes = 0 } ∷ record { name = codes "B"; arm = None; axes = 0 } ∷ []
+
+legal_whole : audit_line two_rows 14 (Ok true) ≡ codes "A legal 14 whole\n"
+unfolding digits two_rows
+legal_whole = refl
+
+legal_open : audit_line two_rows 5 (Ok false) ≡ codes "A legal 5 open\n"
+unfolding digits two_rows
+legal_open = refl
+
+answers_true : audit_line two_rows 14 (Err (faults.Event 2 (wrongs.Answers (answers.Yes true)))) ≡ codes "A event 2 answers TRUE\n"
+unfolding digits two_rows
+answers_true = refl
+
+asks_look : audit_line two_rows 14 (Err (faults.Event 1 (wrongs.Asks requests.Look))) ≡ codes "A event 1 asks Look\n"
+unfolding digits two_rows
+asks_look = refl
+
+has_ended : audit_line two_rows 15 (Err (faults.Event 14 wrongs.Ended)) ≡ codes "A event 14 ended\n"
+unfolding digits two_rows
+has_ended = refl
+
+fate_of_b : audit_line two_rows 14 (Err (faults.Fate 1)) ≡ codes "A fate B\n"
+unfolding digits two_rows
+fate_of_b = refl
+
+-- only a history that passes has status 0
+fate_status : audit_status (Err (faults.Fate 1)) ≡ 12
+fate_status = refl
+
+open_status : audit_status (Ok false) ≡ 0
+open_status = refl

@@ -1,5 +1,5 @@
 -- Each way in which a call ends answers its words and files.
-use Rattle.std.proofs.Common.{◌≡◌, ℕ, List, [], ◌∷◌, Bool, Option, Some, None, Result, Ok, Err, refl, ap, sym, subst, ◌⊎◌, inl, inr}
+use Rattle.std.proofs.Common.{◌≡◌, ℕ, List, [], ◌∷◌, ◌++◌, Bool, Option, Some, None, Result, Ok, Err, refl, ap, sym, subst, ◌⊎◌, inl, inr}
 use Rattle.std.specs.Borrow.{Bor}
 use Rattle.std.specs.Prelude.{Vec}
 use Rattle.std.specs.declared.alloc.Global.{Global}
@@ -20,18 +20,18 @@ use Rattle.controller.specs.declared.shown.Shown.TheVariants as shows
 use Rattle.command_words.specs.Words.{refused_place}
 use Rattle.controller.specs.Files.{Reads, told_reads}
 use Rattle.controller.specs.Loaded.{names_in_turn, file_names, bytes_of, reads_of, IsScriptIn, TextsDecide}
-use Rattle.controller.specs.Accepted.{Verdict, refuses, accepts, runs, runs_free, lists, Accepted, ReadModule, file_text, ModulesOf, checked, names_of, ActionDecides, CheckedDecides, ModulesDecide, FileDecides, WordsDecide}
+use Rattle.controller.specs.Accepted.{Verdict, refuses, accepts, runs, runs_free, lists, Accepted, ReadModule, file_text, ModulesOf, checked, names_of, ActionDecides, ActionReads, CheckedDecides, Doing, ModulesDecide, FileDecides, WordsDecide}
 use Rattle.controller.specs.Printed.{Seen, Sunk}
 use Rattle.controller.specs.Refusals.{refusal_text, status_of}
 use Rattle.controller.specs.Runs.{IsRun, IsRunByTurns, run_status}
-use Rattle.controller.specs.Answered.{IsRefused, IsPrinted, Answers, AnswersAccepted, AnswersRun, AnswersList, AnswersReads, AnswersMade, IsOutOfMemory, IsVerdict, RunsOrMemory, ListsOrMemory, AnswersWords, untouched, PrintsBy, run_lines}
+use Rattle.controller.specs.Answered.{IsRefused, IsPrinted, Answers, AnswersAccepted, AnswersRun, AnswersHistory, AnswersList, AnswersReads, AnswersMade, IsOutOfMemory, IsVerdict, RunsOrMemory, ListsOrMemory, AnswersWords, untouched, PrintsBy, run_lines}
 use Rattle.controller.specs.Written.{TakesLine}
-use Rattle.controller.specs.Asked.{GiveScript, GiveTexts, IsAsked}
+use Rattle.controller.specs.Asked.{GiveScript, GiveTexts, IsAsked, IsToDo}
 use Rattle.controller.proofs.Gains.{gained_none}
 use Rattle.controller.proofs.Loads.{modules_from_texts}
 
 -- an out-of-memory refusal is about no file
-out_of_memory : (names : List (List ℕ)) (refused : Refused) (report : Report) (out err : Sunk) → refused ≡ Memory → IsRefused names refused report out err → IsOutOfMemory report out err
+pub out_of_memory : (names : List (List ℕ)) (refused : Refused) (report : Report) (out err : Sunk) → refused ≡ Memory → IsRefused names refused report out err → IsOutOfMemory report out err
 out_of_memory names refused report out err is r =
     let m : IsRefused names Memory report out err = subst (λ (x : Refused). IsRefused names x report out err) is r in
     record { refused_is = m.refused_is; status = m.status; history = m.history; fates = m.fates; printed = m.printed; calls = m.calls; told = m.told }
@@ -63,15 +63,18 @@ words_refused words told place report out err at r = inr (refuses [] (Words plac
     on (Some files) = here (told_reads files)
 
 -- the script is refused
-pub script_refused : (words : List (List ℕ)) (told : Option Told) (action : Action) (name : List ℕ) (refused : Refused) (report : Report) (out err : Sunk)
-    → GiveScript words told action name (Err refused) → IsRefused (name ∷ []) refused report out err → AnswersWords words told report out err
-script_refused words told action name refused report out err g r = by g.script_is
+pub script_refused : (words : List (List ℕ)) (told : Option Told) (action : Action) (name history : List ℕ) (refused : Refused) (report : Report) (out err : Sunk)
+    → GiveScript words told action name history (Err refused) → IsRefused (name ∷ []) refused report out err → AnswersWords words told report out err
+script_refused words told action name history refused report out err g r = by g.script_is
   where
     verdict : Verdict
     verdict = refuses (name ∷ []) refused
 
-    from : (read : Result (List ℕ) Refused) → file_text g.gave 0 SCRIPT_BYTES name ≡ read → FileDecides (Some action) g.gave name read verdict → AnswersWords words told report out err
-    from read is d = inr (verdict, g.verdicts verdict (subst (λ (t : Result (List ℕ) Refused). FileDecides (Some action) g.gave name t verdict) (sym is) d), r)
+    acts : Doing
+    acts = ActionReads (Some action) g.gave history
+
+    from : (read : Result (List ℕ) Refused) → file_text g.gave 0 SCRIPT_BYTES name ≡ read → FileDecides acts g.gave name read verdict → AnswersWords words told report out err
+    from read is d = inr (verdict, g.verdicts verdict (subst (λ (t : Result (List ℕ) Refused). FileDecides acts g.gave name t verdict) (sym is) d), r)
 
     by : IsScriptIn (file_text g.gave 0 SCRIPT_BYTES name) (Err refused) → AnswersWords words told report out err
     by (inl memory) = inl (out_of_memory (name ∷ []) refused report out err memory r)
@@ -79,24 +82,24 @@ script_refused words told action name refused report out err g r = by g.script_i
     by (inr (inr rule)) = from (Ok rule.0) rule.2 (Err rule.1, rule.3, ap (refuses (name ∷ [])) rule.4)
 
 -- what the words and files come to, from what the modules come to
-modules_decide : (words : List (List ℕ)) (told : Option Told) (action : Action) (name : List ℕ) (script : ScriptData) (texts : List (List ℕ)) (failed : Option Refused) (modules : Result (List ReadModule) Refused)
-    (verdict : Verdict) (g : GiveTexts words told action name script texts failed) → ModulesOf g.given.gave 1 (module_names script.tasks) modules
-    → ModulesDecide (Some action) (names_of name script) script modules verdict → IsVerdict words told verdict
-modules_decide words told action name script texts failed modules verdict g d decides =
+modules_decide : (words : List (List ℕ)) (told : Option Told) (action : Action) (name history : List ℕ) (script : ScriptData) (texts : List (List ℕ)) (failed : Option Refused)
+    (modules : Result (List ReadModule) Refused) (verdict : Verdict) (g : GiveTexts words told action name history script texts failed) → ModulesOf g.given.gave 1 (module_names script.tasks) modules
+    → ModulesDecide (ActionReads (Some action) g.given.gave history) (names_of name script) script modules verdict → IsVerdict words told verdict
+modules_decide words told action name history script texts failed modules verdict g d decides =
     let s = g.given.script_is in
     g.given.verdicts verdict
-    (subst (λ (t : Result (List ℕ) Refused). FileDecides (Some action) g.given.gave name t verdict) (sym s.1) (Ok script, s.2, (modules, d, decides)))
+    (subst (λ (t : Result (List ℕ) Refused). FileDecides (ActionReads (Some action) g.given.gave history) g.given.gave name t verdict) (sym s.1) (Ok script, s.2, (modules, d, decides)))
 
 -- why the modules are refused
 abbrev pub AreRefused : List (List ℕ) → Option Refused → Refused → Type 0
 AreRefused texts failed refused = (refused ≡ Memory) ⊎ TextsDecide 1 texts failed (Err refused)
 
 -- a module is refused
-pub module_refused : (words : List (List ℕ)) (told : Option Told) (action : Action) (name : List ℕ) (script : ScriptData) (ms : List (Bor (List ℕ))) (texts : List (List ℕ)) (failed : Option Refused) (refused : Refused)
-    (report : Report) (out err : Sunk) → names_in_turn ms ≡ module_names script.tasks → GiveTexts words told action name script texts failed → IsRefused (file_names name ms) refused report out err
-    → AreRefused texts failed refused → AnswersWords words told report out err
-module_refused words told action name script ms texts failed refused report out err named g t (inl memory) = inl (out_of_memory (file_names name ms) refused report out err memory t)
-module_refused words told action name script ms texts failed refused report out err named g t (inr d) =
+pub module_refused : (words : List (List ℕ)) (told : Option Told) (action : Action) (name history : List ℕ) (script : ScriptData) (ms : List (Bor (List ℕ))) (texts : List (List ℕ)) (failed : Option Refused)
+    (refused : Refused) (report : Report) (out err : Sunk) → names_in_turn ms ≡ module_names script.tasks → GiveTexts words told action name history script texts failed
+    → IsRefused (file_names name ms) refused report out err → AreRefused texts failed refused → AnswersWords words told report out err
+module_refused words told action name history script ms texts failed refused report out err named g t (inl memory) = inl (out_of_memory (file_names name ms) refused report out err memory t)
+module_refused words told action name history script ms texts failed refused report out err named g t (inr d) =
     by (modules_from_texts g.given.gave 1 (module_names script.tasks) texts failed (Err refused) g.texts_are d)
   where
     verdict : Verdict
@@ -104,46 +107,46 @@ module_refused words told action name script ms texts failed refused report out 
 
     by : (let all : Result (List ReadModule) Refused = Err refused in all ≡ Err Memory) ⊎ ModulesOf g.given.gave 1 (module_names script.tasks) (Err refused) → AnswersWords words told report out err
     by (inl memory) = let e : refused ≡ Memory = cc in inl (out_of_memory (file_names name ms) refused report out err e t)
-    by (inr m) = inr (verdict, modules_decide words told action name script texts failed (Err refused) verdict g m (ap (λ (ns : List (List ℕ)). refuses (name ∷ ns) refused) named), t)
+    by (inr m) = inr (verdict, modules_decide words told action name history script texts failed (Err refused) verdict g m (ap (λ (ns : List (List ℕ)). refuses (name ∷ ns) refused) named), t)
 
 -- what they come to if all modules are read
-read_decides : (words : List (List ℕ)) (told : Option Told) (action : Action) (name : List ℕ) (script : ScriptData) (ms : List (Bor (List ℕ))) (texts : List (List ℕ)) (failed : Option Refused)
-    (reads : List ReadModule) (verdict : Verdict) → names_in_turn ms ≡ module_names script.tasks → GiveTexts words told action name script texts failed → TextsDecide 1 texts failed (Ok reads)
-    → CheckedDecides (Some action) (file_names name ms) (checked script reads) verdict → IsVerdict words told verdict
-read_decides words told action name script ms texts failed reads verdict named g d decides = by (modules_from_texts g.given.gave 1 (module_names script.tasks) texts failed (Ok reads) g.texts_are d)
+read_decides : (words : List (List ℕ)) (told : Option Told) (action : Action) (name history : List ℕ) (script : ScriptData) (ms : List (Bor (List ℕ))) (texts : List (List ℕ)) (failed : Option Refused)
+    (reads : List ReadModule) (verdict : Verdict) → names_in_turn ms ≡ module_names script.tasks → (g : GiveTexts words told action name history script texts failed) → TextsDecide 1 texts failed (Ok reads)
+    → CheckedDecides (ActionReads (Some action) g.given.gave history) (file_names name ms) (checked script reads) verdict → IsVerdict words told verdict
+read_decides words told action name history script ms texts failed reads verdict named g d decides = by (modules_from_texts g.given.gave 1 (module_names script.tasks) texts failed (Ok reads) g.texts_are d)
   where
     by : (let all : Result (List ReadModule) Refused = Ok reads in all ≡ Err Memory) ⊎ ModulesOf g.given.gave 1 (module_names script.tasks) (Ok reads) → IsVerdict words told verdict
     by (inl memory) = cc
     by (inr m) =
-        modules_decide words told action name script texts failed (Ok reads) verdict g m
-        (subst (λ (ns : List (List ℕ)). CheckedDecides (Some action) (name ∷ ns) (checked script reads) verdict) named decides)
+        modules_decide words told action name history script texts failed (Ok reads) verdict g m
+        (subst (λ (ns : List (List ℕ)). CheckedDecides (ActionReads (Some action) g.given.gave history) (name ∷ ns) (checked script reads) verdict) named decides)
 
 -- all is read
-pub all_read : (words : List (List ℕ)) (told : Option Told) (action : Action) (name : List ℕ) (script : ScriptData) (ms : List (Bor (List ℕ))) (texts : List (List ℕ)) (failed : Option Refused)
-    (reads : List ReadModule) (report : Report) (out err : Sunk) → names_in_turn ms ≡ module_names script.tasks → GiveTexts words told action name script texts failed → TextsDecide 1 texts failed (Ok reads)
-    → AnswersReads (Some action) (file_names name ms) script reads report out err → AnswersWords words told report out err
-all_read words told action name script ms texts failed reads report out err named g d (inl memory) = inl memory
-all_read words told action name script ms texts failed reads report out err named g d (inr answers) =
-    inr (answers.0, read_decides words told action name script ms texts failed reads answers.0 named g d answers.1, answers.2)
+pub all_read : (words : List (List ℕ)) (told : Option Told) (action : Action) (name history : List ℕ) (script : ScriptData) (ms : List (Bor (List ℕ))) (texts : List (List ℕ)) (failed : Option Refused)
+    (reads : List ReadModule) (report : Report) (out err : Sunk) → names_in_turn ms ≡ module_names script.tasks → (g : GiveTexts words told action name history script texts failed) → TextsDecide 1 texts failed (Ok reads)
+    → AnswersReads (ActionReads (Some action) g.given.gave history) (file_names name ms) script reads report out err → AnswersWords words told report out err
+all_read words told action name history script ms texts failed reads report out err named g d (inl memory) = inl memory
+all_read words told action name history script ms texts failed reads report out err named g d (inr answers) =
+    inr (answers.0, read_decides words told action name history script ms texts failed reads answers.0 named g d answers.1, answers.2)
 
 -- and accepted
-pub all_asked : (words : List (List ℕ)) (told : Option Told) (action : Action) (name : List ℕ) (script : ScriptData) (ms : List (Bor (List ℕ))) (texts : List (List ℕ)) (failed : Option Refused)
-    (reads : List ReadModule) (made : MadeCell) → names_in_turn ms ≡ module_names script.tasks → GiveTexts words told action name script texts failed → TextsDecide 1 texts failed (Ok reads)
-    → checked script reads ≡ Ok made → IsAsked words told action made
-all_asked words told action name script ms texts failed reads made named g d found = record {
-  names = file_names name ms;
+pub all_asked : (words : List (List ℕ)) (told : Option Told) (action : Action) (name history : List ℕ) (script : ScriptData) (ms : List (Bor (List ℕ))) (texts : List (List ℕ)) (failed : Option Refused)
+    (reads : List ReadModule) (made : MadeCell) → names_in_turn ms ≡ module_names script.tasks → (g : GiveTexts words told action name history script texts failed) → TextsDecide 1 texts failed (Ok reads)
+    → checked script reads ≡ Ok made → IsToDo words told (ActionReads (Some action) g.given.gave history) (file_names name ms) made
+all_asked words told action name history script ms texts failed reads made named g d found = record {
   verdicts = λ verdict decides.
-      read_decides words told action name script ms texts failed reads verdict named g d
-      (subst (λ (x : Result MadeCell Refused). CheckedDecides (Some action) (file_names name ms) x verdict) (sym found) decides);
+      read_decides words told action name history script ms texts failed reads verdict named g d
+      (subst (λ (x : Result MadeCell Refused). CheckedDecides (ActionReads (Some action) g.given.gave history) (file_names name ms) x verdict) (sym found) decides);
 }
 
--- what answers the action with the cell answers the words
-pub asked_answered : (words : List (List ℕ)) (told : Option Told) (action : Action) (made : MadeCell) (report : Report) (out there err : Sunk) → IsAsked words told action made → there ≡ err
-    → ((names : List (List ℕ)) → AnswersMade action names made report out there) → AnswersWords words told report out err
-asked_answered words told action made report out there err asked same answers =
-    by (subst (λ (s : Sunk). AnswersMade action asked.names made report out s) same (answers asked.names))
+-- what answers the action with the cell and the text answers the words
+pub asked_answered : (words : List (List ℕ)) (told : Option Told) (action : Action) (made : MadeCell) (text here : List ℕ) (report : Report) (out there err : Sunk) → IsAsked words told action made text → here ≡ text
+    → there ≡ err → ((last : List ℕ) (names : List (List ℕ)) → AnswersMade action last here names made report out there) → AnswersWords words told report out err
+asked_answered words told action made text here report out there err asked given same answers =
+    by (subst (λ (s : Sunk). AnswersMade action asked.last text asked.names made report out s) same
+    (subst (λ (t : List ℕ). AnswersMade action asked.last t asked.names made report out there) given (answers asked.last asked.names)))
   where
-    by : AnswersMade action asked.names made report out err → AnswersWords words told report out err
+    by : AnswersMade action asked.last text asked.names made report out err → AnswersWords words told report out err
     by (inl memory) = inl memory
     by (inr a) = inr (a.0, asked.verdicts a.0 a.1, a.2)
 
@@ -158,18 +161,18 @@ parsed_here texts here seen trees shown failed same equal alike d =
 -- with all read, the outcome
 
 -- a rule is broken
-pub check_refused : (names : List (List ℕ)) (action : Option Action) (script : ScriptData) (reads : List ReadModule) (refused : Refused) (report : Report) (out err : Sunk)
-    → (refused ≡ Memory) ⊎ (checked script reads ≡ Err refused) → IsRefused names refused report out err → AnswersReads action names script reads report out err
-check_refused names action script reads refused report out err (inl memory) r = inl (out_of_memory names refused report out err memory r)
-check_refused names action script reads refused report out err (inr found) r =
+pub check_refused : (names : List (List ℕ)) (acts : Doing) (script : ScriptData) (reads : List ReadModule) (refused : Refused) (report : Report) (out err : Sunk)
+    → (refused ≡ Memory) ⊎ (checked script reads ≡ Err refused) → IsRefused names refused report out err → AnswersReads acts names script reads report out err
+check_refused names acts script reads refused report out err (inl memory) r = inl (out_of_memory names refused report out err memory r)
+check_refused names acts script reads refused report out err (inr found) r =
     inr (
       refuses names refused,
-      subst (λ (made : Result MadeCell Refused). CheckedDecides action names made (refuses names refused)) (sym found) refl,
+      subst (λ (made : Result MadeCell Refused). CheckedDecides acts names made (refuses names refused)) (sym found) refl,
       r,
     )
 
 -- whether or not a fault is known
-is_printed : {status : ℕ} {lines : List (List ℕ)} {report : Report} {out err : Sunk} → PrintsBy status lines report out err → IsPrinted status lines report out err
+pub is_printed : {status : ℕ} {lines : List (List ℕ)} {report : Report} {out err : Sunk} → PrintsBy status lines report out err → IsPrinted status lines report out err
 is_printed (inl whole) = inl whole
 is_printed (inr part) = inr part.0
 
@@ -177,12 +180,12 @@ accepted_answers : (names : List (List ℕ)) (report : Report) (out err : Sunk) 
 accepted_answers names report out err answered = (answered.0, is_printed answered.1)
 
 -- all is accepted, which is reported
-pub all_accepted : (names : List (List ℕ)) (action : Action) (made : MadeCell) (report : Report) (out err : Sunk) → action ≡ actions.Check → AnswersAccepted report out err
-    → AnswersMade action names made report out err
-all_accepted names action made report out err is a =
+pub all_accepted : (last text : List ℕ) (names : List (List ℕ)) (action : Action) (made : MadeCell) (report : Report) (out err : Sunk) → action ≡ actions.Check → AnswersAccepted report out err
+    → AnswersMade action last text names made report out err
+all_accepted last text names action made report out err is a =
     inr (
       accepts names,
-      subst (λ (x : Action). ActionDecides (Some x) names made (accepts names)) (sym is) refl,
+      subst (λ (x : Action). ActionDecides (Some x) last (Ok text) names made (accepts names)) (sym is) refl,
       accepted_answers names report out err a,
     )
 
@@ -191,30 +194,33 @@ run_answers : (Run : Report → Type 0) (shown : Shown) (cell : CellData) (repor
 run_answers Run shown cell report out err answered = (answered.0, is_printed answered.1)
 
 -- the tasks run round-robin
-tasks_run : (names : List (List ℕ)) (action : Action) (shown : Shown) (made : MadeCell) (report : Report) (out err : Sunk) → ActionDecides (Some action) names made (runs names shown made.cell made.trees)
-    → RunsOrMemory (IsRunByTurns made.cell made.trees) shown made.cell report out err → AnswersMade action names made report out err
-tasks_run names action shown made report out err d (inl memory) = inl memory
-tasks_run names action shown made report out err d (inr run) =
+tasks_run : (last text : List ℕ) (names : List (List ℕ)) (action : Action) (shown : Shown) (made : MadeCell) (report : Report) (out err : Sunk)
+    → ActionDecides (Some action) last (Ok text) names made (runs names shown made.cell made.trees) → RunsOrMemory (IsRunByTurns made.cell made.trees) shown made.cell report out err
+    → AnswersMade action last text names made report out err
+tasks_run last text names action shown made report out err d (inl memory) = inl memory
+tasks_run last text names action shown made report out err d (inr run) =
     inr (runs names shown made.cell made.trees, d, run_answers (IsRunByTurns made.cell made.trees) shown made.cell report out err run)
 
-pub round_run : (names : List (List ℕ)) (action : Action) (full : Bool) (made : MadeCell) (report : Report) (out err : Sunk) → action ≡ actions.Round full
-    → RunsOrMemory (IsRunByTurns made.cell made.trees) (shows.Events full) made.cell report out err → AnswersMade action names made report out err
-round_run names action full made report out err is =
-    tasks_run names action (shows.Events full) made report out err (subst (λ (x : Action). ActionDecides (Some x) names made (runs names (shows.Events full) made.cell made.trees)) (sym is) refl)
+pub round_run : (last text : List ℕ) (names : List (List ℕ)) (action : Action) (full : Bool) (made : MadeCell) (report : Report) (out err : Sunk) → action ≡ actions.Round full
+    → RunsOrMemory (IsRunByTurns made.cell made.trees) (shows.Events full) made.cell report out err → AnswersMade action last text names made report out err
+round_run last text names action full made report out err is =
+    tasks_run last text names action (shows.Events full) made report out err
+    (subst (λ (x : Action). ActionDecides (Some x) last (Ok text) names made (runs names (shows.Events full) made.cell made.trees)) (sym is) refl)
 
-pub load_run : (names : List (List ℕ)) (action : Action) (moves : ℕ) (made : MadeCell) (report : Report) (out err : Sunk) → action ≡ actions.Load moves
-    → RunsOrMemory (IsRunByTurns made.cell made.trees) shows.Summary made.cell report out err → AnswersMade action names made report out err
-load_run names action moves made report out err is =
-    tasks_run names action shows.Summary made report out err (subst (λ (x : Action). ActionDecides (Some x) names made (runs names shows.Summary made.cell made.trees)) (sym is) refl)
+pub load_run : (last text : List ℕ) (names : List (List ℕ)) (action : Action) (moves : ℕ) (made : MadeCell) (report : Report) (out err : Sunk) → action ≡ actions.Load moves
+    → RunsOrMemory (IsRunByTurns made.cell made.trees) shows.Summary made.cell report out err → AnswersMade action last text names made report out err
+load_run last text names action moves made report out err is =
+    tasks_run last text names action shows.Summary made report out err
+    (subst (λ (x : Action). ActionDecides (Some x) last (Ok text) names made (runs names shows.Summary made.cell made.trees)) (sym is) refl)
 
 -- or each on its own
-pub tasks_run_free : (names : List (List ℕ)) (action : Action) (full : Bool) (made : MadeCell) (report : Report) (out err : Sunk) → action ≡ actions.Run full
-    → RunsOrMemory (IsRun made.cell made.trees) (shows.Events full) made.cell report out err → AnswersMade action names made report out err
-tasks_run_free names action full made report out err is (inl memory) = inl memory
-tasks_run_free names action full made report out err is (inr run) =
+pub tasks_run_free : (last text : List ℕ) (names : List (List ℕ)) (action : Action) (full : Bool) (made : MadeCell) (report : Report) (out err : Sunk) → action ≡ actions.Run full
+    → RunsOrMemory (IsRun made.cell made.trees) (shows.Events full) made.cell report out err → AnswersMade action last text names made report out err
+tasks_run_free last text names action full made report out err is (inl memory) = inl memory
+tasks_run_free last text names action full made report out err is (inr run) =
     inr (
       runs_free names (shows.Events full) made.cell made.trees,
-      subst (λ (x : Action). ActionDecides (Some x) names made (runs_free names (shows.Events full) made.cell made.trees)) (sym is) refl,
+      subst (λ (x : Action). ActionDecides (Some x) last (Ok text) names made (runs_free names (shows.Events full) made.cell made.trees)) (sym is) refl,
       run_answers (IsRun made.cell made.trees) (shows.Events full) made.cell report out err run,
     )
 
@@ -222,12 +228,19 @@ list_answers : (names : List (List ℕ)) (cell : CellData) (trees : List TypedTr
 list_answers names cell trees report out err answered = (answered.0, answered.1, answered.2, is_printed answered.3)
 
 -- the cell and the code of its tasks are listed
-pub cell_listed : (names : List (List ℕ)) (action : Action) (made : MadeCell) (report : Report) (out err : Sunk) → action ≡ actions.List → ListsOrMemory made.cell made.trees report out err
-    → AnswersMade action names made report out err
-cell_listed names action made report out err is (inl memory) = inl memory
-cell_listed names action made report out err is (inr list) =
+pub cell_listed : (last text : List ℕ) (names : List (List ℕ)) (action : Action) (made : MadeCell) (report : Report) (out err : Sunk) → action ≡ actions.List → ListsOrMemory made.cell made.trees report out err
+    → AnswersMade action last text names made report out err
+cell_listed last text names action made report out err is (inl memory) = inl memory
+cell_listed last text names action made report out err is (inr list) =
     inr (
       lists names made.cell made.trees,
-      subst (λ (x : Action). ActionDecides (Some x) names made (lists names made.cell made.trees)) (sym is) refl,
+      subst (λ (x : Action). ActionDecides (Some x) last (Ok text) names made (lists names made.cell made.trees)) (sym is) refl,
       list_answers names made.cell made.trees report out err list,
     )
+
+-- a history is audited
+pub cell_audited : (last text : List ℕ) (names : List (List ℕ)) (action : Action) (made : MadeCell) (report : Report) (out err : Sunk) → action ≡ actions.Audit
+    → AnswersHistory text (names ++ last ∷ []) made report out err → AnswersMade action last text names made report out err
+cell_audited last text names action made report out err is (inl memory) = inl memory
+cell_audited last text names action made report out err is (inr answered) =
+    inr (answered.0, subst (λ (x : Action). ActionDecides (Some x) last (Ok text) names made answered.0) (sym is) answered.1, answered.2)

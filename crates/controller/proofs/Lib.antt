@@ -12,6 +12,7 @@ pub mod Checking
 pub mod Made
 pub mod Compiling
 pub mod Accepting
+pub mod NamedTasks
 pub mod Running
 pub mod ZonesMissed
 pub mod FileNames
@@ -24,6 +25,8 @@ pub mod Printing
 pub mod PrintingList
 pub mod Reports
 pub mod Exits
+pub mod LastReads
+pub mod Audited
 pub mod Causes
 pub mod OneVerdict
 pub mod Refusing

@@ -67,11 +67,11 @@ text_short : (moves : ℕ) (name : List ℕ) → AreMoves moves → length (modu
 text_short moves name are = named_short (module_files moves) name (files_short moves are)
 
 -- the script
-pub load_script_given : (words : List (List ℕ)) (told : Option Told) (action : Action) (name : List ℕ) (moves : ℕ) (source : List ℕ) (result : Result ScriptData Refused) → AreFor words action name
-    → action ≡ actions.Load moves → AreMoves moves → source ≡ script_text moves → IsScriptIn (Ok source) result → GiveScript words told action name result
-load_script_given words told action name moves source result is_for same are text is = record {
+pub load_script_given : (words : List (List ℕ)) (told : Option Told) (action : Action) (name history : List ℕ) (moves : ℕ) (source : List ℕ) (result : Result ScriptData Refused) → AreFor words action name history
+    → action ≡ actions.Load moves → AreMoves moves → source ≡ script_text moves → IsScriptIn (Ok source) result → GiveScript words told action name history result
+load_script_given words told action name history moves source result is_for same are text is = record {
   gave = load_reads moves;
-  verdicts = load_verdict words told action name moves is_for same;
+  verdicts = load_verdict words told action name history moves is_for same;
   script_is =
       let short = script_short moves are in
       script_in (text_of 0 SCRIPT_BYTES (Some (script_text moves))) (script_text moves) source result (text_within 0 SCRIPT_BYTES (script_text moves) (omega (arith, short))) text is;
@@ -88,12 +88,12 @@ modules_read moves file [] are some = tt
 modules_read moves file (name ∷ names) are some = (module_read moves file name are some, modules_read moves (file + 1) names are (omega arith))
 
 -- the script and its modules
-pub load_texts_given : (words : List (List ℕ)) (told : Option Told) (action : Action) (name : List ℕ) (moves : ℕ) (source : List ℕ) (script : ScriptData) (names texts : List (List ℕ))
-    → AreFor words action name → action ≡ actions.Load moves → AreMoves moves → source ≡ script_text moves → IsScriptIn (Ok source) (Ok script) → names ≡ module_names script.tasks
-    → texts ≡ map (module_named (module_files moves)) names → GiveTexts words told action name script texts None
+pub load_texts_given : (words : List (List ℕ)) (told : Option Told) (action : Action) (name history : List ℕ) (moves : ℕ) (source : List ℕ) (script : ScriptData) (names texts : List (List ℕ))
+    → AreFor words action name history → action ≡ actions.Load moves → AreMoves moves → source ≡ script_text moves → IsScriptIn (Ok source) (Ok script) → names ≡ module_names script.tasks
+    → texts ≡ map (module_named (module_files moves)) names → GiveTexts words told action name history script texts None
 unfolding load_script_given
-load_texts_given words told action name moves source script names texts is_for same are text is named texts_are = record {
-  given = load_script_given words told action name moves source (Ok script) is_for same are text is;
+load_texts_given words told action name history moves source script names texts is_for same are text is named texts_are = record {
+  given = load_script_given words told action name history moves source (Ok script) is_for same are text is;
   texts_are =
       subst (λ (ns : List (List ℕ)). AreTexts (load_reads moves) 1 ns texts None) named
       (subst (λ (ts : List (List ℕ)). AreTexts (load_reads moves) 1 names ts None) (sym texts_are) (modules_read moves 1 names are (omega arith)));

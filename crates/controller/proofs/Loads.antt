@@ -96,6 +96,13 @@ loading_ends start now old mid modules k texts past p told first =
     subst (λ (ts : List (List ℕ)). AreTexts (told_reads told) 1 (names_in_turn modules) ts None) (append-nil (bytes_of texts))
     (p.read told first [] None (subst (λ (ms : List (Bor (List ℕ))). AreTexts (told_reads told) (k + 1) (names_in_turn ms) [] None) (sym (drop-past modules k past)) tt))
 
+-- and this many reads are reported
+pub loading_reads : (start now : Option Told) (old mid : ℕ) (modules : List (Bor (List ℕ))) (k : ℕ) (texts : List (Vec ℕ Global)) → length modules ≤ k → k ≤ length modules → Loading start now old mid modules k texts
+    → (told : Told) → start ≡ Some (after_reads 1 told) → now ≡ Some (after_reads (length modules + 1) told)
+loading_reads start now old mid modules k texts past within p told first =
+    let same : k ≡ length modules = omega (arith, past, within) in
+    subst (λ (n : ℕ). now ≡ Some (after_reads (n + 1) told)) same (p.reads told first)
+
 -- what the texts come to is what the modules come to
 
 in_file : (gave : Reads) (file : ℕ) (name text : List ℕ) (verdict : Result ReadModule Refused) → file_text gave file MODULE_BYTES name ≡ Ok text → ModuleIn file (Ok text) verdict

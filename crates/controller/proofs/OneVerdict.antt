@@ -1,20 +1,28 @@
 -- Words and the results of the reads have at most one verdict, provided that a text comes to one module.
-use Rattle.std.proofs.Common.{◌≡◌, ℕ, ◌+◌, List, [], ◌∷◌, Option, Some, None, Result, Ok, Err, ap, sym, ◌∙◌, subst, inl, inr}
-use Rattle.rapid_limits.specs.declared.TheConstants.{MODULE_BYTES, SCRIPT_BYTES}
+use Rattle.std.proofs.Common.{◌≡◌, ℕ, ◌+◌, List, [], ◌∷◌, ◌++◌, length, Option, Some, None, Result, Ok, Err, refl, ap, sym, ◌∙◌, subst, inl, inr}
+use Rattle.rapid_limits.specs.declared.TheConstants.{HISTORY_BYTES, MODULE_BYTES, SCRIPT_BYTES}
 use Rattle.toml.specs.Data.{Members}
 use Rattle.cell_assembly.specs.Made.{MadeCell}
-use Rattle.rapid_model.specs.ScriptData.{ScriptData, module_names}
+use Rattle.rapid_model.specs.ScriptData.{IsScript, ScriptData, module_names}
+use Rattle.rapid_model.specs.declared.event.Event.{Event}
+use Rattle.rapid_model.specs.declared.fate.Fate.{Fate}
 use Rattle.cell_script.specs.Break.{ScriptBreak, Read}
 use Rattle.cell_script.specs.ScriptOf.{script_of, IsTable, IsNoToml, ScriptOf}
 use Rattle.raw_trees.specs.Plain.{PlainModule}
 use Rattle.rapid_forms.specs.declared.fault.SyntaxFault.{SyntaxFault}
 use Rattle.module_parser.specs.Modules.{ModuleText}
+use Rattle.history_text.specs.HistoryText.{AreNamed}
+use Rattle.history_text.proofs.NextLines.{one_first_fault, spelled_has_no_fault}
+use Rattle.history_text.proofs.OneHistory.{read_once}
 use Rattle.command_words.specs.declared.command.Action.{Action}
 use Rattle.command_words.specs.declared.command.Action.TheVariants as actions
 use Rattle.controller.specs.declared.refused.Refused.{Refused}
-use Rattle.command_words.specs.Words.{refused_place, script_name, asked}
+use Rattle.controller.specs.declared.refused.Refused.TheVariants.{History}
+use Rattle.command_words.specs.Words.{refused_place, script_name, history_name, asked}
 use Rattle.controller.specs.Files.{Reads}
-use Rattle.controller.specs.Accepted.{ReadModule, Verdict, Accepted, file_text, reads_for, fault_refusal, ModuleOf, ModuleIn, ModulesOf, checked, ActionDecides, CheckedDecides, ModulesDecide, names_of, ScriptDecides, FileDecides, WordsDecide}
+use Rattle.controller.specs.Output.{names_in}
+use Rattle.controller.specs.Accepted.{Doing, ReadModule, Verdict, audits, refuses, Accepted, file_text, reads_for, fault_refusal, ModuleOf, ModuleIn, ModulesOf, checked, ActionDecides, ActionReads, CheckedDecides, HistoryDecides, ModulesDecide, names_of, ScriptDecides, FileDecides, WordsDecide}
+use Rattle.controller.proofs.NamedTasks.{made_named, script_within}
 
 -- a text comes to one module or one fault
 abbrev pub OneText : Type 0
@@ -89,41 +97,67 @@ modules_one one gave file (n ∷ ns) (Err x) (Err y) (inr p) (inl q) =
     let e : Ok p.0 ≡ Err y = module_one one file (file_text gave file MODULE_BYTES n) (Ok p.0) (Err y) p.1 q in cc
 modules_one one gave file (n ∷ ns) (Err x) (Err y) (inr p) (inr q) = modules_one one gave (file + 1) ns (Err x) (Err y) p.2 q.2
 
--- what is accepted is done in only one way
-action_one : (action : Option Action) (names : List (List ℕ)) (made : MadeCell) (v w : Verdict) → ActionDecides action names made v → ActionDecides action names made w → v ≡ w
-action_one (Some actions.Check) names made v w p q = p ∙ sym q
-action_one (Some (actions.Round full)) names made v w p q = p ∙ sym q
-action_one (Some (actions.Run full)) names made v w p q = p ∙ sym q
-action_one (Some actions.List) names made v w p q = p ∙ sym q
-action_one (Some (actions.Load moves)) names made v w p q = p ∙ sym q
-action_one None names made v w p q = absurd p
+-- a text of a history comes to one verdict
 
-checked_one : (action : Option Action) (names : List (List ℕ)) (found : Result MadeCell Refused) (v w : Verdict) → CheckedDecides action names found v → CheckedDecides action names found w → v ≡ w
-checked_one action names (Err refused) v w p q = p ∙ sym q
-checked_one action names (Ok made) v w p q = action_one action names made v w p q
+history_one : (read : Result (List ℕ) Refused) (names : List (List ℕ)) (made : MadeCell) (v w : Verdict) → AreNamed made.cell.tasks → HistoryDecides read names made v → HistoryDecides read names made w → v ≡ w
+history_one (Err refused) names made v w named p q = p ∙ sym q
+history_one (Ok text) names made v w named (inl p) (inl q) =
+    let same : p.0 ≡ q.0 = one_first_fault (names_in made.cell) text p.0 q.0 p.1 q.1 in
+    p.2 ∙ ap (λ (line : ℕ). refuses names (History line)) same ∙ sym q.2
+history_one (Ok text) names made v w named (inl p) (inr q) = absurd (spelled_has_no_fault (names_in made.cell) text q.0 q.1 p.0 named q.2 p.1)
+history_one (Ok text) names made v w named (inr p) (inl q) = absurd (spelled_has_no_fault (names_in made.cell) text p.0 p.1 q.0 named p.2 q.1)
+history_one (Ok text) names made v w named (inr p) (inr q) =
+    let same = read_once (names_in made.cell) text p.0 q.0 p.1 q.1 named p.2 q.2 in
+    p.3 ∙ ap (λ (events : List Event). audits names made.cell made.trees events p.1) same.0
+    ∙ ap (λ (fates : List Fate). audits names made.cell made.trees q.0 fates) same.1 ∙ sym q.3
 
-modules_decide_one : (action : Option Action) (names : List (List ℕ)) (script : ScriptData) (modules : Result (List ReadModule) Refused) (v w : Verdict) → ModulesDecide action names script modules v
-    → ModulesDecide action names script modules w → v ≡ w
-modules_decide_one action names script (Err refused) v w p q = p ∙ sym q
-modules_decide_one action names script (Ok reads) v w p q = checked_one action names (checked script reads) v w p q
+-- what is accepted is done in only one way, with a cell whose tasks have names
+abbrev IsOne : Doing → Type 0
+IsOne acts = (names : List (List ℕ)) (made : MadeCell) (v w : Verdict) → AreNamed made.cell.tasks → acts names made v → acts names made w → v ≡ w
 
-script_decides_one : OneText → (action : Option Action) (gave : Reads) (name : List ℕ) (script : Read ScriptData) (v w : Verdict) → ScriptDecides action gave name script v → ScriptDecides action gave name script w → v ≡ w
-script_decides_one one action gave name (Err broken) v w p q = p ∙ sym q
-script_decides_one one action gave name (Ok script) v w p q =
+action_one : (action : Option Action) (last : List ℕ) (read : Result (List ℕ) Refused) (names : List (List ℕ)) (made : MadeCell) (v w : Verdict) → AreNamed made.cell.tasks → ActionDecides action last read names made v
+    → ActionDecides action last read names made w → v ≡ w
+action_one (Some actions.Check) last read names made v w named p q = p ∙ sym q
+action_one (Some (actions.Round full)) last read names made v w named p q = p ∙ sym q
+action_one (Some (actions.Run full)) last read names made v w named p q = p ∙ sym q
+action_one (Some actions.List) last read names made v w named p q = p ∙ sym q
+action_one (Some (actions.Load moves)) last read names made v w named p q = p ∙ sym q
+action_one (Some actions.Audit) last read names made v w named p q = history_one read (names ++ last ∷ []) made v w named p q
+action_one None last read names made v w named p q = absurd p
+
+reads_one : (action : Option Action) (gave : Reads) (last : List ℕ) → IsOne (ActionReads action gave last)
+reads_one action gave last = λ names made v w named p q. action_one action last (file_text gave (length names) HISTORY_BYTES last) names made v w named p q
+
+checked_one : (acts : Doing) → IsOne acts → (names : List (List ℕ)) (found : Result MadeCell Refused) (v w : Verdict) → ((made : MadeCell) → found ≡ Ok made → AreNamed made.cell.tasks)
+    → CheckedDecides acts names found v → CheckedDecides acts names found w → v ≡ w
+checked_one acts each names (Err refused) v w named p q = p ∙ sym q
+checked_one acts each names (Ok made) v w named p q = each names made v w (named made refl) p q
+
+modules_decide_one : (acts : Doing) → IsOne acts → (names : List (List ℕ)) (script : ScriptData) (modules : Result (List ReadModule) Refused) (v w : Verdict) → IsScript script
+    → ModulesDecide acts names script modules v → ModulesDecide acts names script modules w → v ≡ w
+modules_decide_one acts each names script (Err refused) v w limits p q = p ∙ sym q
+modules_decide_one acts each names script (Ok reads) v w limits p q = checked_one acts each names (checked script reads) v w (λ made is. made_named script reads made limits is) p q
+
+script_decides_one : OneText → (acts : Doing) → IsOne acts → (gave : Reads) (name text : List ℕ) (script : Read ScriptData) (v w : Verdict) → ScriptOf text script → ScriptDecides acts gave name script v
+    → ScriptDecides acts gave name script w → v ≡ w
+script_decides_one one acts each gave name text (Err broken) v w spelled p q = p ∙ sym q
+script_decides_one one acts each gave name text (Ok script) v w spelled p q =
     let same : p.0 ≡ q.0 = modules_one one gave 1 (module_names script.tasks) p.0 q.0 p.1 q.1 in
-    modules_decide_one action (names_of name script) script q.0 v w (subst (λ (m : Result (List ReadModule) Refused). ModulesDecide action (names_of name script) script m v) same p.2) q.2
+    modules_decide_one acts each (names_of name script) script q.0 v w (script_within text script spelled)
+    (subst (λ (m : Result (List ReadModule) Refused). ModulesDecide acts (names_of name script) script m v) same p.2) q.2
 
-file_decides_one : OneText → (action : Option Action) (gave : Reads) (name : List ℕ) (read : Result (List ℕ) Refused) (v w : Verdict) → FileDecides action gave name read v → FileDecides action gave name read w → v ≡ w
-file_decides_one one action gave name (Err refused) v w p q = p ∙ sym q
-file_decides_one one action gave name (Ok text) v w p q =
+file_decides_one : OneText → (acts : Doing) → IsOne acts → (gave : Reads) (name : List ℕ) (read : Result (List ℕ) Refused) (v w : Verdict) → FileDecides acts gave name read v → FileDecides acts gave name read w → v ≡ w
+file_decides_one one acts each gave name (Err refused) v w p q = p ∙ sym q
+file_decides_one one acts each gave name (Ok text) v w p q =
     let same : p.0 ≡ q.0 = script_one text p.0 q.0 p.1 q.1 in
-    script_decides_one one action gave name q.0 v w (subst (λ (s : Read ScriptData). ScriptDecides action gave name s v) same p.2) q.2
+    script_decides_one one acts each gave name text q.0 v w q.1 (subst (λ (s : Read ScriptData). ScriptDecides acts gave name s v) same p.2) q.2
 
 words_decide_one : OneText → (gave : Reads) (words : List (List ℕ)) (place : Option ℕ) (v w : Verdict) → WordsDecide gave words place v → WordsDecide gave words place w → v ≡ w
 words_decide_one one gave words (Some place) v w p q = p ∙ sym q
 words_decide_one one gave words None v w p q =
     let read = reads_for (asked words) gave in
-    file_decides_one one (asked words) read (script_name words) (file_text read 0 SCRIPT_BYTES (script_name words)) v w p q
+    file_decides_one one (ActionReads (asked words) read (history_name words)) (reads_one (asked words) read (history_name words)) read (script_name words)
+    (file_text read 0 SCRIPT_BYTES (script_name words)) v w p q
 
 pub verdict_one : OneText → (words : List (List ℕ)) (gave : Reads) (v w : Verdict) → Accepted words gave v → Accepted words gave w → v ≡ w
 verdict_one one words gave v w a b = words_decide_one one gave words (refused_place words) v w a.decides b.decides

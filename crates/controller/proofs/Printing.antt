@@ -12,7 +12,7 @@ use Rattle.rapid_model.specs.declared.task_row.TaskRow.{TaskRow}
 use Rattle.rapid_model.specs.declared.fate.Fate.{Fate}
 use Rattle.cell_meaning.specs.Fates.{fate_after, fates_after}
 use Rattle.history_pages.specs.Requests.{is_lined}
-use Rattle.history_text.specs.Lines.{fate_line, fate_lines, line_between, line_of, task_name}
+use Rattle.history_text.specs.Lines.{fate_line, fate_lines, line_between, line_of, task_axes, task_name}
 use Rattle.controller.proofs.Fates.{drop-fates_after}
 use Rattle.controller.specs.EventsShown.{shown_line}
 use Rattle.controller.specs.Printed.{Seen, Sunk}
@@ -97,13 +97,13 @@ fate_failed cell history k row fate all a b c lt is same w p =
     (subst (λ (rest : List (List ℕ)). Printing all rest (between a b)) (fates_left cell history k row fate lt is same) p) w
 
 -- an event has no line unless it asks for a setpoint or a text to the operator
-line_of_none : (name : List ℕ) (request : Request) (answer : Answer) → is_lined request ≡ false → line_between name request answer ≡ []
-line_of_none name (requests.Setpoint to) answer is = absurd (true≢false is)
-line_of_none name (requests.Say text tail) answer is = absurd (true≢false is)
-line_of_none name _ answer is = refl
+line_of_none : (name : List ℕ) (axes : ℕ) (request : Request) (answer : Answer) → is_lined request ≡ false → line_between name axes request answer ≡ []
+line_of_none name axes (requests.Setpoint to) answer is = absurd (true≢false is)
+line_of_none name axes (requests.Say text tail) answer is = absurd (true≢false is)
+line_of_none name axes _ answer is = refl
 
 pub unlined : (tasks : List TaskRow) (e : Event) → is_lined e.request ≡ false → line_of tasks e ≡ []
-unlined tasks e is = line_of_none (task_name tasks e.actor) e.request e.answer is
+unlined tasks e is = line_of_none (task_name tasks e.actor) (task_axes tasks e.actor) e.request e.answer is
 
 -- an empty line is written by no call
 wrote_none : (sink : Seen) → WritesAll ([] ∷ []) (between sink sink)

@@ -6,7 +6,7 @@ use Rattle.rapid_model.specs.RuleNames.{rule_name}
 use Rattle.rapid_lexer.specs.declared.place.Place.{Place}
 use Rattle.controller.specs.declared.refused.ModuleRule.{ModuleRule}
 use Rattle.controller.specs.declared.refused.Refused.{Refused}
-use Rattle.controller.specs.declared.refused.Refused.TheVariants.{Words, Script, Module, Read, TooLong}
+use Rattle.controller.specs.declared.refused.Refused.TheVariants.{Words, Script, Module, Read, TooLong, History}
 use Rattle.controller.specs.Refusals.{refusal_text, key_words, place_words, module_rule_name}
 
 pub words_pieces : (name middle : List ℕ) (place : ℕ) (r : Refused) → r ≡ Words place → middle ≡ decimal place
@@ -39,3 +39,7 @@ read_pieces name middle file r is m = rw (is, m) refl
 pub long_pieces : (name middle : List ℕ) (file : ℕ) (r : Refused) → r ≡ TooLong file → middle ≡ name
     → refusal_text name r ≡ codes "rapid_cell: long " ++ (middle ++ codes "\n")
 long_pieces name middle file r is m = rw (is, m) refl
+
+pub history_pieces : (name middle : List ℕ) (line : ℕ) (r : Refused) → r ≡ History line → middle ≡ decimal line
+    → refusal_text name r ≡ codes "rapid_cell: history " ++ (middle ++ codes "\n")
+history_pieces name middle line r is m = rw (is, m) refl

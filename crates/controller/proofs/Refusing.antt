@@ -1,7 +1,7 @@
 -- No verdict refuses for lack of memory or for a write.
-use Rattle.std.proofs.Common.{◌≡◌, ℕ, ◌+◌, List, [], ◌∷◌, Bool, true, false, refl, sym, subst, inl, inr}
+use Rattle.std.proofs.Common.{◌≡◌, ℕ, ◌+◌, List, [], ◌∷◌, ◌++◌, Bool, true, false, refl, sym, subst, inl, inr}
 use Rattle.std.specs.Prelude.{Option, Some, None, IfErr, Result, Ok, Err, nat_le, length, if◌then◌else◌}
-use Rattle.rapid_limits.specs.declared.TheConstants.{MODULE_BYTES, SCRIPT_BYTES}
+use Rattle.rapid_limits.specs.declared.TheConstants.{HISTORY_BYTES, MODULE_BYTES, SCRIPT_BYTES}
 use Rattle.rapid_model.specs.ScriptData.{ScriptData, module_names}
 use Rattle.cell_assembly.specs.Made.{MadeCell}
 use Rattle.cell_script.specs.Break.{Read}
@@ -13,8 +13,8 @@ use Rattle.command_words.specs.declared.command.Action.TheVariants as actions
 use Rattle.controller.specs.declared.refused.Refused.{Refused}
 use Rattle.controller.specs.declared.refused.Refused.TheVariants as refusals
 use Rattle.controller.specs.Files.{Reads, text_of}
-use Rattle.command_words.specs.Words.{refused_place, script_name, asked}
-use Rattle.controller.specs.Accepted.{Verdict, refuses, accepts, runs, runs_free, lists, Accepted, ReadModule, file_text, reads_for, fault_refusal, ModuleIn, ModulesOf, checked, ActionDecides, CheckedDecides, ModulesDecide, names_of, ScriptDecides, FileDecides, WordsDecide}
+use Rattle.command_words.specs.Words.{refused_place, script_name, history_name, asked}
+use Rattle.controller.specs.Accepted.{Doing, Verdict, refuses, accepts, runs, runs_free, lists, audits, Accepted, ReadModule, file_text, reads_for, fault_refusal, ModuleIn, ModulesOf, checked, ActionDecides, ActionReads, CheckedDecides, HistoryDecides, ModulesDecide, names_of, ScriptDecides, FileDecides, WordsDecide}
 use Rattle.controller.proofs.Checking.{checks_refuse}
 
 -- the words, a file, the script or a module is refused
@@ -26,6 +26,7 @@ IsOfInput (refusals.Read file) = Unit {0}
 IsOfInput refusals.Write = ⊥
 IsOfInput refusals.Memory = ⊥
 IsOfInput (refusals.TooLong file) = Unit {0}
+IsOfInput (refusals.History line) = Unit {0}
 
 -- of a verdict, if it refuses
 abbrev RefusesInput : Verdict → Type 0
@@ -34,6 +35,7 @@ RefusesInput (accepts names) = Unit {0}
 RefusesInput (runs names shown cell trees) = Unit {0}
 RefusesInput (runs_free names shown cell trees) = Unit {0}
 RefusesInput (lists names cell trees) = Unit {0}
+RefusesInput (audits names cell trees events fates) = Unit {0}
 
 is_refused : (names : List (List ℕ)) (refused : Refused) (verdict : Verdict) → IsOfInput refused → verdict ≡ refuses names refused → RefusesInput verdict
 is_refused names refused verdict of is = subst RefusesInput (sym is) of
@@ -64,39 +66,55 @@ of_modules gave file (name ∷ names) refused (inr d) = of_modules gave (file + 
 
 -- from what is checked to the words
 
-of_action : (action : Option Action) (names : List (List ℕ)) (made : MadeCell) (verdict : Verdict) → ActionDecides action names made verdict → RefusesInput verdict
-of_action (Some actions.Check) names made verdict d = subst RefusesInput (sym d) tt
-of_action (Some (actions.Round full)) names made verdict d = subst RefusesInput (sym d) tt
-of_action (Some (actions.Run full)) names made verdict d = subst RefusesInput (sym d) tt
-of_action (Some actions.List) names made verdict d = subst RefusesInput (sym d) tt
-of_action (Some (actions.Load moves)) names made verdict d = subst RefusesInput (sym d) tt
-of_action None names made verdict d = absurd d
+-- what an action comes to refuses only for the input
+abbrev IsForInput : Doing → Type 0
+IsForInput acts = (names : List (List ℕ)) (made : MadeCell) (verdict : Verdict) → acts names made verdict → RefusesInput verdict
 
-of_checked : (action : Option Action) (names : List (List ℕ)) (found : Result MadeCell Refused) (verdict : Verdict) → IfErr found IsOfInput → CheckedDecides action names found verdict → RefusesInput verdict
-of_checked action names (Err refused) verdict of d = is_refused names refused verdict of d
-of_checked action names (Ok made) verdict of d = of_action action names made verdict d
+of_history : (read : Result (List ℕ) Refused) (names : List (List ℕ)) (made : MadeCell) (verdict : Verdict) → IfErr read IsOfInput → HistoryDecides read names made verdict → RefusesInput verdict
+of_history (Err refused) names made verdict of d = is_refused names refused verdict of d
+of_history (Ok text) names made verdict of (inl d) = is_refused names (refusals.History d.0) verdict tt d.2
+of_history (Ok text) names made verdict of (inr d) = subst RefusesInput (sym d.3) tt
 
-of_decided : (action : Option Action) (names : List (List ℕ)) (script : ScriptData) (modules : Result (List ReadModule) Refused) (verdict : Verdict) → ((refused : Refused) → modules ≡ Err refused → IsOfInput refused)
-    → ModulesDecide action names script modules verdict → RefusesInput verdict
-of_decided action names script (Err refused) verdict of d = is_refused names refused verdict (of refused refl) d
-of_decided action names script (Ok reads) verdict of d =
-    of_checked action names (checked script reads) verdict (checks_refuse IsOfInput (λ key rule. tt) (λ file place rule. tt) script reads) d
+of_action : (action : Option Action) (last : List ℕ) (read : Result (List ℕ) Refused) (names : List (List ℕ)) (made : MadeCell) (verdict : Verdict) → IfErr read IsOfInput → ActionDecides action last read names made verdict
+    → RefusesInput verdict
+of_action (Some actions.Check) last read names made verdict of d = subst RefusesInput (sym d) tt
+of_action (Some (actions.Round full)) last read names made verdict of d = subst RefusesInput (sym d) tt
+of_action (Some (actions.Run full)) last read names made verdict of d = subst RefusesInput (sym d) tt
+of_action (Some actions.List) last read names made verdict of d = subst RefusesInput (sym d) tt
+of_action (Some (actions.Load moves)) last read names made verdict of d = subst RefusesInput (sym d) tt
+of_action (Some actions.Audit) last read names made verdict of d = of_history read (names ++ last ∷ []) made verdict of d
+of_action None last read names made verdict of d = absurd d
 
-of_script : (action : Option Action) (gave : Reads) (name : List ℕ) (script : Read ScriptData) (verdict : Verdict) → ScriptDecides action gave name script verdict → RefusesInput verdict
-of_script action gave name (Err broken) verdict d = is_refused (name ∷ []) (refusals.Script broken.key broken.rule) verdict tt d
-of_script action gave name (Ok script) verdict d =
-    of_decided action (names_of name script) script d.0 verdict
+of_reads : (action : Option Action) (gave : Reads) (last : List ℕ) → IsForInput (ActionReads action gave last)
+of_reads action gave last = λ names made verdict d.
+    of_action action last (file_text gave (length names) HISTORY_BYTES last) names made verdict (of_text (length names) HISTORY_BYTES (gave (length names) last)) d
+
+of_checked : (acts : Doing) (names : List (List ℕ)) (found : Result MadeCell Refused) (verdict : Verdict) → IsForInput acts → IfErr found IsOfInput → CheckedDecides acts names found verdict → RefusesInput verdict
+of_checked acts names (Err refused) verdict each of d = is_refused names refused verdict of d
+of_checked acts names (Ok made) verdict each of d = each names made verdict d
+
+of_decided : (acts : Doing) (names : List (List ℕ)) (script : ScriptData) (modules : Result (List ReadModule) Refused) (verdict : Verdict) → IsForInput acts
+    → ((refused : Refused) → modules ≡ Err refused → IsOfInput refused) → ModulesDecide acts names script modules verdict → RefusesInput verdict
+of_decided acts names script (Err refused) verdict each of d = is_refused names refused verdict (of refused refl) d
+of_decided acts names script (Ok reads) verdict each of d =
+    of_checked acts names (checked script reads) verdict each (checks_refuse IsOfInput (λ key rule. tt) (λ file place rule. tt) script reads) d
+
+of_script : (acts : Doing) (gave : Reads) (name : List ℕ) (script : Read ScriptData) (verdict : Verdict) → IsForInput acts → ScriptDecides acts gave name script verdict → RefusesInput verdict
+of_script acts gave name (Err broken) verdict each d = is_refused (name ∷ []) (refusals.Script broken.key broken.rule) verdict tt d
+of_script acts gave name (Ok script) verdict each d =
+    of_decided acts (names_of name script) script d.0 verdict each
     (λ refused is. of_modules gave 1 (module_names script.tasks) refused (subst (λ (m : Result (List ReadModule) Refused). ModulesOf gave 1 (module_names script.tasks) m) is d.1)) d.2
 
-of_file : (action : Option Action) (gave : Reads) (name : List ℕ) (read : Result (List ℕ) Refused) (verdict : Verdict) → IfErr read IsOfInput → FileDecides action gave name read verdict → RefusesInput verdict
-of_file action gave name (Err refused) verdict of d = is_refused (name ∷ []) refused verdict of d
-of_file action gave name (Ok text) verdict of d = of_script action gave name d.0 verdict d.2
+of_file : (acts : Doing) (gave : Reads) (name : List ℕ) (read : Result (List ℕ) Refused) (verdict : Verdict) → IsForInput acts → IfErr read IsOfInput → FileDecides acts gave name read verdict → RefusesInput verdict
+of_file acts gave name (Err refused) verdict each of d = is_refused (name ∷ []) refused verdict of d
+of_file acts gave name (Ok text) verdict each of d = of_script acts gave name d.0 verdict each d.2
 
 of_words : (gave : Reads) (words : List (List ℕ)) (place : Option ℕ) (verdict : Verdict) → WordsDecide gave words place verdict → RefusesInput verdict
 of_words gave words (Some place) verdict d = is_refused [] (refusals.Words place) verdict tt d
 of_words gave words None verdict d =
     let read = reads_for (asked words) gave in
-    of_file (asked words) read (script_name words) (file_text read 0 SCRIPT_BYTES (script_name words)) verdict (of_text 0 SCRIPT_BYTES (read 0 (script_name words))) d
+    of_file (ActionReads (asked words) read (history_name words)) read (script_name words) (file_text read 0 SCRIPT_BYTES (script_name words)) verdict
+    (of_reads (asked words) read (history_name words)) (of_text 0 SCRIPT_BYTES (read 0 (script_name words))) d
 
 pub refuses_input : (words : List (List ℕ)) (gave : Reads) (names : List (List ℕ)) (refused : Refused) → Accepted words gave (refuses names refused) → IsOfInput refused
 refuses_input words gave names refused a = of_words gave words (refused_place words) (refuses names refused) a.decides

@@ -1,6 +1,6 @@
 -- The report of a run.
 use Rattle.std.proofs.Common.{◌≡◌, ℕ, List, [], length, None, Some, ap, sym, ◌∙◌, subst, inl, inr}
-use Rattle.rapid_model.specs.CellData.{CellData}
+use Rattle.rapid_model.specs.CellData.{CellData, IsCell}
 use Rattle.rapid_model.specs.declared.event.Event.{Event}
 use Rattle.typed_trees.specs.Plain.{TypedTree}
 use Rattle.rapid_meaning.specs.Asking.{tree_asks}
@@ -9,6 +9,8 @@ use Rattle.cell_meaning.specs.Fates.{fates_after}
 use Rattle.cell_meaning.specs.Histories.{IsLegal, IsWhole}
 use Rattle.cell_meaning.specs.Premises.{TasksAskWell}
 use Rattle.cell_meaning.specs.Turns.{IsByTurns}
+use Rattle.cell_meaning.proofs.Follow.{outputs_follow}
+use Rattle.cell_meaning.proofs.InputScript.{asks_what_it_may}
 use Rattle.controller.specs.declared.report.Report.{Report}
 use Rattle.controller.specs.declared.refused.Refused.TheVariants.{Write}
 use Rattle.controller.specs.Refusals.{status_of, refusal_text}
@@ -47,6 +49,7 @@ answered_as Run Other shown cell report out err follows answered = (follows answ
 
 -- a legal and complete history of tasks that ask well
 pub record IsSound (cell : CellData) (trees : List TypedTree) (history : List Event) : Type 0 where
+  pub limits : IsCell cell
   pub well : TasksAskWell (tree_asks trees) cell
   pub legal : IsLegal (with_inputs (tree_asks trees) cell) cell history
   pub whole : IsWhole (with_inputs (tree_asks trees) cell) cell history
@@ -62,6 +65,7 @@ run_of cell trees history report sound tells =
       whole = whole;
       fates = tells.fates_is ∙ ap (λ (h : List Event). fates_after cell h (length cell.tasks)) (sym tells.history_is);
       clear = zones_missed (with_inputs (tree_asks trees) cell) cell report.history.items legal;
+      outputs = outputs_follow (with_inputs (tree_asks trees) cell) cell report.history.items sound.limits (asks_what_it_may (tree_asks trees) cell sound.well) legal;
       stalled = λ status task within going. stalled_wait cell trees report.history.items sound.well legal whole status task within going;
     }
 

@@ -38,11 +38,18 @@ unread_gave file limit refusals.Memory is = (None, inl refl)
 unread_gave file limit (refusals.TooLong other) is =
     let more = longer limit in
     (Some more.0, inr (text_past file limit more.0 more.1 ∙ ap (λ (n : ℕ). Err (refusals.TooLong n)) (sym is)))
+unread_gave file limit (refusals.History line) is = absurd is
 
 -- the texts, and the result of the read after them
 abbrev pub behind : List (Vec ℕ Global) → Option (List ℕ) → List (Option (List ℕ))
 behind [] last = last ∷ []
 behind (text ∷ texts) last = Some text.items ∷ behind texts last
+
+pub behind_end : (texts : List (Vec ℕ Global)) (last : Option (List ℕ)) (k : ℕ) → k ≡ length texts → get_or (behind texts last) k None ≡ last
+behind_end [] last zero is = refl
+behind_end [] last (suc k) is = absurd (omega (arith, is))
+behind_end (text ∷ texts) last zero is = absurd (omega (arith, is))
+behind_end (text ∷ texts) last (suc k) is = behind_end texts last k (omega (arith, is))
 
 -- if the reads from a file on gave these, they come to the texts and to what stopped them
 pub texts_given : (gave : Reads) (file : ℕ) (names : List (List ℕ)) (texts : List (Vec ℕ Global)) (last : Option (List ℕ)) (failed : Option Refused)

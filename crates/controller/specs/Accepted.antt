@@ -1,9 +1,11 @@
 -- What command words and files come to: the first refusal; that all is accepted; or the cell and the trees of its
--- tasks.
-use Rattle.std.specs.Prelude.{◌≡◌, ℕ, zero, suc, ◌+◌, ◌⊎◌, take, drop, slice_get, List, [], ◌∷◌, length, map, Option, Some, None, is_some, Result, Ok, Err}
-use Rattle.rapid_limits.specs.declared.TheConstants.{MODULE_BYTES, SCRIPT_BYTES}
+-- tasks, for `audit` with a history.
+use Rattle.std.specs.Prelude.{◌≡◌, ℕ, zero, suc, ◌+◌, ◌++◌, ◌⊎◌, take, drop, slice_get, List, [], ◌∷◌, length, map, Option, Some, None, is_some, Result, Ok, Err}
+use Rattle.rapid_limits.specs.declared.TheConstants.{HISTORY_BYTES, MODULE_BYTES, SCRIPT_BYTES}
 use Rattle.rapid_model.specs.CellData.{CellData}
 use Rattle.rapid_model.specs.ScriptData.{ScriptData, module_names}
+use Rattle.rapid_model.specs.declared.event.Event.{Event}
+use Rattle.rapid_model.specs.declared.fate.Fate.{Fate}
 use Rattle.rapid_model.specs.declared.script_task.ScriptTask.{ScriptTask}
 use Rattle.cell_script.specs.Break.{Read}
 use Rattle.cell_script.specs.ScriptOf.{ScriptOf}
@@ -21,27 +23,30 @@ use Rattle.cell_assembly.specs.Made.{MadeCell, make_cell}
 use Rattle.rapid_forms.specs.declared.fault.SyntaxFault.{SyntaxFault}
 use Rattle.rapid_forms.specs.declared.fault.SyntaxFault.TheVariants as faults
 use Rattle.module_parser.specs.Modules.{ModuleText}
+use Rattle.history_text.specs.HistoryText.{IsFirstFault, Spells}
 use Rattle.command_words.specs.declared.command.Action.{Action}
 use Rattle.command_words.specs.declared.command.Action.TheVariants as actions
 use Rattle.controller.specs.declared.refused.Refused.{Refused}
-use Rattle.controller.specs.declared.refused.Refused.TheVariants.{Words, Script, Module, Memory}
+use Rattle.controller.specs.declared.refused.Refused.TheVariants.{Words, Script, Module, Memory, History}
 use Rattle.controller.specs.declared.refused.ModuleRule.{ModuleRule}
 use Rattle.controller.specs.declared.refused.ModuleRule.TheVariants.{Lex, Syntax, «Type»}
 use Rattle.controller.specs.declared.shown.Shown.{Shown}
 use Rattle.controller.specs.declared.shown.Shown.TheVariants as shows
 use Rattle.controller.specs.Files.{Reads, text_of}
 use Rattle.controller.specs.LoadFiles.{load_reads}
-use Rattle.command_words.specs.Words.{refused_place, script_name, asked}
+use Rattle.controller.specs.Output.{names_in as names_of_cell}
+use Rattle.command_words.specs.Words.{refused_place, script_name, history_name, asked}
 
 -- The refusal; or all is accepted, for `check`; or the cell and the trees, for a round-robin run or one in which each
--- task runs on its own, with what is printed of it, or for their list. And the names of the files in the order in which
--- they are read, as far as the script is known.
+-- task runs on its own, with what is printed of it, or for their list, or for the audit of a history with these events
+-- and fates. And the names of the files in the order in which they are read, as far as the script is known.
 pub data Verdict : Type 0 where
   refuses : List (List ℕ) → Refused → Verdict
   accepts : List (List ℕ) → Verdict
   runs : List (List ℕ) → Shown → CellData → List TypedTree → Verdict
   runs_free : List (List ℕ) → Shown → CellData → List TypedTree → Verdict
   lists : List (List ℕ) → CellData → List TypedTree → Verdict
+  audits : List (List ℕ) → CellData → List TypedTree → List Event → List Fate → Verdict
 
 -- what the read of a file of this number comes to
 abbrev pub file_text : Reads → ℕ → ℕ → List ℕ → Result (List ℕ) Refused
@@ -139,42 +144,60 @@ cell_or_refused script reads (Err broken) = Err (cell_refusal script reads broke
 abbrev pub checked : ScriptData → List ReadModule → Result MadeCell Refused
 checked script reads = typed_tasks script script.tasks reads >>= (λ trees. cell_or_refused script reads (make_cell script trees))
 
--- what the action comes to if all is accepted, with this cell and these trees; words without an action are refused
-abbrev pub ActionDecides : Option Action → List (List ℕ) → MadeCell → Verdict → Type 0
-ActionDecides (Some actions.Check) names made verdict = verdict ≡ accepts names
-ActionDecides (Some (actions.Round full)) names made verdict = verdict ≡ runs names (shows.Events full) made.cell made.trees
-ActionDecides (Some (actions.Run full)) names made verdict = verdict ≡ runs_free names (shows.Events full) made.cell made.trees
-ActionDecides (Some actions.List) names made verdict = verdict ≡ lists names made.cell made.trees
-ActionDecides (Some (actions.Load moves)) names made verdict = verdict ≡ runs names shows.Summary made.cell made.trees
-ActionDecides None names made verdict = ⊥
+-- what is done with the names of the files that were read, and with the cell and the trees that they gave
+abbrev pub Doing : Type 1
+Doing = List (List ℕ) → MadeCell → Verdict → Type 0
 
-abbrev pub CheckedDecides : Option Action → List (List ℕ) → Result MadeCell Refused → Verdict → Type 0
-CheckedDecides action names (Err refused) verdict = verdict ≡ refuses names refused
-CheckedDecides action names (Ok made) verdict = ActionDecides action names made verdict
+-- what the text of a history comes to: the first line with which the lines so far start no history of the cell, or the
+-- history that it spells
+abbrev pub HistoryDecides : Result (List ℕ) Refused → Doing
+HistoryDecides (Err refused) names made verdict = verdict ≡ refuses names refused
+HistoryDecides (Ok text) names made verdict =
+    ((line : ℕ) × IsFirstFault (names_of_cell made.cell) text line × (verdict ≡ refuses names (History line)))
+    ⊎ ((events : List Event) × (fates : List Fate) × Spells (names_of_cell made.cell) text events fates × (verdict ≡ audits names made.cell made.trees events fates))
+
+-- What the action comes to if all is accepted, with this cell and these trees. `audit` reads one more file, of this
+-- name, and this is what the read comes to. Words without an action are refused.
+abbrev pub ActionDecides : Option Action → List ℕ → Result (List ℕ) Refused → Doing
+ActionDecides (Some actions.Check) last read names made verdict = verdict ≡ accepts names
+ActionDecides (Some (actions.Round full)) last read names made verdict = verdict ≡ runs names (shows.Events full) made.cell made.trees
+ActionDecides (Some (actions.Run full)) last read names made verdict = verdict ≡ runs_free names (shows.Events full) made.cell made.trees
+ActionDecides (Some actions.List) last read names made verdict = verdict ≡ lists names made.cell made.trees
+ActionDecides (Some (actions.Load moves)) last read names made verdict = verdict ≡ runs names shows.Summary made.cell made.trees
+ActionDecides (Some actions.Audit) last read names made verdict = HistoryDecides read (names ++ last ∷ []) made verdict
+ActionDecides None last read names made verdict = ⊥
+
+-- the same if the reads give these: the last file is read after those with these names
+abbrev pub ActionReads : Option Action → Reads → List ℕ → Doing
+ActionReads action gave last names made verdict = ActionDecides action last (file_text gave (length names) HISTORY_BYTES last) names made verdict
+
+abbrev pub CheckedDecides : Doing → List (List ℕ) → Result MadeCell Refused → Verdict → Type 0
+CheckedDecides acts names (Err refused) verdict = verdict ≡ refuses names refused
+CheckedDecides acts names (Ok made) verdict = acts names made verdict
 
 -- given the script, its modules and its cell
-abbrev pub ModulesDecide : Option Action → List (List ℕ) → ScriptData → Result (List ReadModule) Refused → Verdict → Type 0
-ModulesDecide action names script (Err refused) verdict = verdict ≡ refuses names refused
-ModulesDecide action names script (Ok reads) verdict = CheckedDecides action names (checked script reads) verdict
+abbrev pub ModulesDecide : Doing → List (List ℕ) → ScriptData → Result (List ReadModule) Refused → Verdict → Type 0
+ModulesDecide acts names script (Err refused) verdict = verdict ≡ refuses names refused
+ModulesDecide acts names script (Ok reads) verdict = CheckedDecides acts names (checked script reads) verdict
 
 abbrev pub names_of : List ℕ → ScriptData → List (List ℕ)
 names_of name script = name ∷ module_names script.tasks
 
 -- what the script's text comes to
-abbrev pub ScriptDecides : Option Action → Reads → List ℕ → Read ScriptData → Verdict → Type 0
-ScriptDecides action gave name (Err broken) verdict = verdict ≡ refuses (name ∷ []) (Script broken.key broken.rule)
-ScriptDecides action gave name (Ok script) verdict =
+abbrev pub ScriptDecides : Doing → Reads → List ℕ → Read ScriptData → Verdict → Type 0
+ScriptDecides acts gave name (Err broken) verdict = verdict ≡ refuses (name ∷ []) (Script broken.key broken.rule)
+ScriptDecides acts gave name (Ok script) verdict =
     (modules : Result (List ReadModule) Refused) × ModulesOf gave 1 (module_names script.tasks) modules
-    × ModulesDecide action (names_of name script) script modules verdict
+    × ModulesDecide acts (names_of name script) script modules verdict
 
-abbrev pub FileDecides : Option Action → Reads → List ℕ → Result (List ℕ) Refused → Verdict → Type 0
-FileDecides action gave name (Err refused) verdict = verdict ≡ refuses (name ∷ []) refused
-FileDecides action gave name (Ok text) verdict =
-    (script : Read ScriptData) × ScriptOf text script × ScriptDecides action gave name script verdict
+abbrev pub FileDecides : Doing → Reads → List ℕ → Result (List ℕ) Refused → Verdict → Type 0
+FileDecides acts gave name (Err refused) verdict = verdict ≡ refuses (name ∷ []) refused
+FileDecides acts gave name (Ok text) verdict =
+    (script : Read ScriptData) × ScriptOf text script × ScriptDecides acts gave name script verdict
 
 -- what the files of an action come to, if the reads give these and the script's file has this name
-abbrev pub FilesDecide : Option Action → Reads → List ℕ → Verdict → Type 0
-FilesDecide action gave name verdict = FileDecides action gave name (file_text gave 0 SCRIPT_BYTES name) verdict
+abbrev pub FilesDecide : Doing → Reads → List ℕ → Verdict → Type 0
+FilesDecide acts gave name verdict = FileDecides acts gave name (file_text gave 0 SCRIPT_BYTES name) verdict
 
 -- what the reads of its files give: those of `load` are the texts of the load cell
 abbrev pub reads_for : Option Action → Reads → Reads
@@ -183,7 +206,9 @@ reads_for _ gave = gave
 
 abbrev pub WordsDecide : Reads → List (List ℕ) → Option ℕ → Verdict → Type 0
 WordsDecide gave words (Some place) verdict = verdict ≡ refuses [] (Words place)
-WordsDecide gave words None verdict = FilesDecide (asked words) (reads_for (asked words) gave) (script_name words) verdict
+WordsDecide gave words None verdict =
+    let reads = reads_for (asked words) gave in
+    FilesDecide (ActionReads (asked words) reads (history_name words)) reads (script_name words) verdict
 
 -- what the words and the files come to, if the reads give these
 pub record Accepted (words : List (List ℕ)) (gave : Reads) (verdict : Verdict) : Type 0 where

@@ -1,14 +1,20 @@
 -- How a report answers a verdict.
-use Rattle.std.specs.Prelude.{◌≡◌, ℕ, ◌⊎◌, List, [], ◌∷◌, length, codes, Option, Some, None, slice_get}
+use Rattle.std.specs.Prelude.{◌≡◌, ℕ, ◌⊎◌, Bool, List, [], ◌∷◌, length, codes, Option, Some, None, Result, Ok, slice_get}
 use Rattle.std.specs.List.{concat}
 use Rattle.outside.specs.Count.{Rose}
 use Rattle.outside.specs.Told.{Told}
 use Rattle.outside.specs.declared.call.Call.{Call}
 use Rattle.rapid_model.specs.CellData.{CellData}
 use Rattle.rapid_model.specs.ScriptData.{ScriptData}
+use Rattle.rapid_model.specs.declared.event.Event.{Event}
+use Rattle.rapid_model.specs.declared.fate.Fate.{Fate}
 use Rattle.typed_trees.specs.Plain.{TypedTree}
 use Rattle.stack_code.specs.CodeData.{CodeData}
 use Rattle.code_laws.specs.Asking.{AsksAs}
+use Rattle.rapid_meaning.specs.Asking.{tree_asks}
+use Rattle.cell_meaning.specs.Asking.{with_inputs}
+use Rattle.history_audit.specs.Audits.{IsAudit}
+use Rattle.history_audit.specs.declared.audit_fault.AuditFault.{AuditFault}
 use Rattle.cell_assembly.specs.Made.{MadeCell}
 use Rattle.cell_listing.specs.Listing.{listing_of}
 use Rattle.controller.specs.declared.report.Report.{Report}
@@ -17,7 +23,8 @@ use Rattle.controller.specs.declared.refused.Refused.TheVariants.{Write, Memory}
 use Rattle.command_words.specs.declared.command.Action.{Action}
 use Rattle.controller.specs.declared.shown.Shown.{Shown}
 use Rattle.controller.specs.Files.{Reads, told_reads}
-use Rattle.controller.specs.Accepted.{Verdict, refuses, accepts, runs, runs_free, lists, Accepted, ReadModule, checked, ActionDecides, CheckedDecides}
+use Rattle.controller.specs.Accepted.{Doing, Verdict, refuses, accepts, runs, runs_free, lists, audits, Accepted, ReadModule, checked, ActionDecides, CheckedDecides, HistoryDecides}
+use Rattle.controller.specs.Audits.{audit_line, audit_status}
 use Rattle.controller.specs.Refusals.{status_of, refusal_line}
 use Rattle.controller.specs.Runs.{IsRun, IsRunByTurns, run_status}
 use Rattle.controller.specs.Output.{lines_of, output_of}
@@ -103,6 +110,12 @@ abbrev pub AnswersList : CellData → List TypedTree → Report → Sunk → Sun
 AnswersList cell trees report out err =
     (code : List CodeData) × AreCodesOf trees code × RanNothing report × PrintsBy 0 (listing_of cell code) report out err
 
+-- what is found of a history, and is printed in one line
+abbrev pub AnswersAudit : CellData → List TypedTree → List Event → List Fate → Report → Sunk → Sunk → Type 0
+AnswersAudit cell trees events fates report out err =
+    (found : Result Bool AuditFault) × IsAudit (with_inputs (tree_asks trees) cell) cell events fates found × RanNothing report
+    × PrintsBy (audit_status found) (audit_line cell.tasks (length events) found ∷ []) report out err
+
 -- the answer to a verdict
 abbrev pub Answers : Verdict → Report → Sunk → Sunk → Type 0
 Answers (refuses names refused) report out err = IsRefused names refused report out err
@@ -113,6 +126,9 @@ Answers (runs_free names shown cell trees) report out err =
     IsRun cell trees report × IsPrinted (run_status cell report.history.items) (run_lines shown cell report) report out err
 Answers (lists names cell trees) report out err =
     (code : List CodeData) × AreCodesOf trees code × RanNothing report × IsPrinted 0 (listing_of cell code) report out err
+Answers (audits names cell trees events fates) report out err =
+    (found : Result Bool AuditFault) × IsAudit (with_inputs (tree_asks trees) cell) cell events fates found × RanNothing report
+    × IsPrinted (audit_status found) (audit_line cell.tasks (length events) found ∷ []) report out err
 
 -- out of memory: before the first event, with nothing printed
 abbrev pub IsOutOfMemory : Report → Sunk → Sunk → Type 0
@@ -126,18 +142,26 @@ RunsOrMemory Run shown cell report out err = IsOutOfMemory report out err ⊎ An
 abbrev pub ListsOrMemory : CellData → List TypedTree → Report → Sunk → Sunk → Type 0
 ListsOrMemory cell trees report out err = IsOutOfMemory report out err ⊎ AnswersList cell trees report out err
 
+-- an audit, or out of memory
+abbrev pub AuditsOrMemory : CellData → List TypedTree → List Event → List Fate → Report → Sunk → Sunk → Type 0
+AuditsOrMemory cell trees events fates report out err = IsOutOfMemory report out err ⊎ AnswersAudit cell trees events fates report out err
+
 -- it answers a verdict of which this holds, or is out of memory
 abbrev pub AnswersSome : (Verdict → Type 0) → Report → Sunk → Sunk → Type 0
 AnswersSome P report out err = IsOutOfMemory report out err ⊎ ((verdict : Verdict) × P verdict × Answers verdict report out err)
 
 -- with all modules read
-abbrev pub AnswersReads : Option Action → List (List ℕ) → ScriptData → List ReadModule → Report → Sunk → Sunk → Type 0
-AnswersReads action names script reads report out err =
-    AnswersSome (CheckedDecides action names (checked script reads)) report out err
+abbrev pub AnswersReads : Doing → List (List ℕ) → ScriptData → List ReadModule → Report → Sunk → Sunk → Type 0
+AnswersReads acts names script reads report out err =
+    AnswersSome (CheckedDecides acts names (checked script reads)) report out err
 
--- with all modules accepted, this cell and its trees
-abbrev pub AnswersMade : Action → List (List ℕ) → MadeCell → Report → Sunk → Sunk → Type 0
-AnswersMade action names made report out err = AnswersSome (ActionDecides (Some action) names made) report out err
+-- with all modules accepted, this cell and its trees, and this text of the file of this name that the action reads last
+abbrev pub AnswersMade : Action → List ℕ → List ℕ → List (List ℕ) → MadeCell → Report → Sunk → Sunk → Type 0
+AnswersMade action last text names made report out err = AnswersSome (ActionDecides (Some action) last (Ok text) names made) report out err
+
+-- with the text of a history for this cell
+abbrev pub AnswersHistory : List ℕ → List (List ℕ) → MadeCell → Report → Sunk → Sunk → Type 0
+AnswersHistory text names made report out err = AnswersSome (HistoryDecides (Ok text) names made) report out err
 
 -- A verdict on the words and the files: on what each read finds, if the shelf reports its files; otherwise on the
 -- results of some reads.

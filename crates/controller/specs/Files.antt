@@ -4,7 +4,7 @@ use Rattle.std.specs.declared.alloc.Global.{Global}
 use Rattle.outside.specs.Count.{Rose}
 use Rattle.outside.specs.Told.{Told, found, after_reads}
 use Rattle.controller.specs.declared.refused.Refused.{Refused}
-use Rattle.controller.specs.declared.refused.Refused.TheVariants.{Words, Script, Module, Read, Write, Memory, TooLong}
+use Rattle.controller.specs.declared.refused.Refused.TheVariants.{Words, Script, Module, Read, Write, Memory, TooLong, History}
 
 -- what each read of a call gave, by the number of the file and its name: its bytes, or nothing if the read failed
 abbrev pub Reads : Type 0
@@ -19,7 +19,7 @@ abbrev pub text_of : ℕ → ℕ → Option (List ℕ) → Result (List ℕ) Ref
 text_of file limit None = Err (Read file)
 text_of file limit (Some bytes) = if nat_le (length bytes) limit then Ok bytes else Err (TooLong file)
 
--- why loading was refused: not for the words, nor for a write; and a read failed only if a fault was counted
+-- why loading was refused: not for the words, nor for a write or a line; and a read failed only if a fault was counted
 abbrev pub IsLoadFault : ℕ → ℕ → Refused → Type 0
 IsLoadFault old new (Words place) = ⊥
 IsLoadFault old new (Script key rule) = Unit {0}
@@ -28,6 +28,7 @@ IsLoadFault old new (Read file) = Rose old new
 IsLoadFault old new Write = ⊥
 IsLoadFault old new Memory = Unit {0}
 IsLoadFault old new (TooLong file) = Unit {0}
+IsLoadFault old new (History line) = ⊥
 
 -- why the file of this number is not read: the read failed, it is too long, or memory ran out
 abbrev pub IsUnread : ℕ → Refused → Type 0
@@ -38,6 +39,7 @@ IsUnread file (Read other) = other ≡ file
 IsUnread file Write = ⊥
 IsUnread file Memory = Unit {0}
 IsUnread file (TooLong other) = other ≡ file
+IsUnread file (History line) = ⊥
 
 -- why an action is refused: not for the words, nor for a read; and a write failed only if a fault was counted
 abbrev pub IsDoneFault : ℕ → ℕ → Refused → Type 0
@@ -48,6 +50,7 @@ IsDoneFault old new (Read file) = ⊥
 IsDoneFault old new Write = Rose old new
 IsDoneFault old new Memory = Unit {0}
 IsDoneFault old new (TooLong file) = Unit {0}
+IsDoneFault old new (History line) = Unit {0}
 
 -- a result is this, or out of memory
 abbrev pub Gives : {X Y : Type 0} → (X → Y) → Result Y Refused → Result X Refused → Type 0

@@ -1,14 +1,15 @@
 pub mod Refusals
 pub mod Files
 pub mod LoadFiles
+pub mod Output
+pub mod Audits
 pub mod Accepted
 pub mod Loaded
 pub mod Runs
-pub mod Output
 pub mod Sends
 pub mod Printed
+pub mod Written
 pub mod Answered
 pub mod Asked
-pub mod Written
 pub mod Complete
 pub mod EventsShown

@@ -3,7 +3,7 @@ use Rattle.std.specs.Prelude.{ℕ, List, [], ◌∷◌, ◌++◌, Option, Some, 
 use Rattle.std.specs.Option.{unwrap_or, option_map_or}
 use Rattle.rapid_model.specs.RuleNames.{rule_name}
 use Rattle.controller.specs.declared.refused.Refused.{Refused}
-use Rattle.controller.specs.declared.refused.Refused.TheVariants.{Words, Script, Module, Read, Write, Memory, TooLong}
+use Rattle.controller.specs.declared.refused.Refused.TheVariants.{Words, Script, Module, Read, Write, Memory, TooLong, History}
 use Rattle.controller.specs.declared.refused.ModuleRule.{ModuleRule}
 use Rattle.controller.specs.declared.refused.ModuleRule.TheVariants as modules
 use Rattle.rapid_lexer.specs.declared.place.Place.{Place}
@@ -19,6 +19,7 @@ status_of (Read file) = 5
 status_of Write = 6
 status_of Memory = 7
 status_of (TooLong file) = 10
+status_of (History line) = 11
 
 abbrev pub module_rule_name : ModuleRule → List ℕ
 module_rule_name (modules.Lex rule) = lex_rule_name rule
@@ -46,6 +47,7 @@ file_of (Read file) = Some file
 file_of Write = None
 file_of Memory = None
 file_of (TooLong file) = Some file
+file_of (History line) = None
 
 -- a line of these pieces
 abbrev pub in_line : List ℕ → List ℕ → List ℕ → List ℕ → List ℕ
@@ -60,6 +62,7 @@ refusal_words name (Read file) = codes "read " ++ name
 refusal_words name Write = codes "write"
 refusal_words name Memory = codes "memory"
 refusal_words name (TooLong file) = codes "long " ++ name
+refusal_words name (History line) = codes "history " ++ decimal line
 
 -- the line of a refusal
 abbrev pub refusal_text : List ℕ → Refused → List ℕ

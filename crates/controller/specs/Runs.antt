@@ -19,6 +19,7 @@ use Rattle.cell_meaning.specs.Asking.{with_inputs}
 use Rattle.cell_meaning.specs.Fates.{all_ended, is_spent, fates_after}
 use Rattle.cell_meaning.specs.Histories.{IsLegal, IsWhole}
 use Rattle.cell_meaning.specs.Motion.{arm_after}
+use Rattle.cell_meaning.specs.OutputsFollow.{OutputsFollow}
 use Rattle.cell_meaning.specs.Rising.{can_rise}
 use Rattle.cell_meaning.specs.Stored.{signals_after}
 use Rattle.cell_meaning.specs.Turns.{IsByTurns}
@@ -54,13 +55,15 @@ pub record TellsRun (cell : CellData) (history : List Event) (report : Report) :
   pub fates_is : report.fates.items ≡ fates_after cell history (length cell.tasks)
 
 -- What holds of any run. The history interleaves complete traces of the tasks' trees and of the input script, and each
--- answer is the one that one shared cell gives at that point. The fates follow from it, and no arm passed through a
--- zone that watched it. If the status is 8, each task that has not ended waits and cannot resume.
+-- answer is the one that one shared cell gives at that point. The fates follow from it, no arm passed through a zone that
+-- watched it, and each output that a zone sets has the zone's value exactly while the arm is in the zone. If the status is
+-- 8, each task that has not ended waits and cannot resume.
 pub record IsRun (cell : CellData) (trees : List TypedTree) (report : Report) : Type 0 where
   pub legal : IsLegal (with_inputs (tree_asks trees) cell) cell report.history.items
   pub whole : IsWhole (with_inputs (tree_asks trees) cell) cell report.history.items
   pub fates : report.fates.items ≡ fates_after cell report.history.items (length cell.tasks)
   pub clear : MissesZones cell report.history.items
+  pub outputs : OutputsFollow cell report.history.items
   pub stalled : run_status cell report.history.items ≡ 8 → (task : ℕ) → task < length cell.tasks → has_ended (part_of task report.history.items) ≡ false
       → WaitsToRise cell trees report.history.items task
 

@@ -20,7 +20,7 @@ use crate::accepted::accepted_cell;
 use crate::check::CheckedCell;
 use crate::refused::Refused;
 use crate::report::{Report, refuse};
-use crate::run::{crew_of, report_run};
+use crate::run::{crew_of, report_run, within_limits};
 use crate::shown::Shown;
 use accepted_cells::{
     accepted_code_suits_its_task, accepted_tasks_ask_as_their_code, accepted_tasks_ask_well,
@@ -69,7 +69,7 @@ pub fn free<R: Threads + Wait + Sync, W: AsSlice<u8>, S: Shelf, O: Sink, E: Sink
     ensures done { IsComplete (map W.items words.now) (S.told shelf.old) result (sunk O.told O.calls O.faults out.old out.new) (sunk E.told E.calls E.faults err.old err.new) }
 {
     match accepted_cell(alloc, words, shelf, err) {
-        Ok((action, accepted)) => {
+        Ok((action, accepted, _)) => {
             let full = is_full(action);
             free_cell(rt, alloc, accepted, full, out, err, pace)
         }
@@ -104,6 +104,7 @@ fn free_cell<R: Threads + Wait + Sync, O: Sink, E: Sink, P: Pace + Sync>(
     accepted_tasks_ask_as_their_code();
     accepted_code_suits_its_task();
     let CheckedCell { cell, trees } = accepted;
+    within_limits(&cell);
     match free_tasks::<Brand, R, P>(rt, alloc, cell, trees.as_slice(), pace) {
         Ok(core) => report_run(core, Shown::Events { full }, out, err),
         Err(_) => refuse(alloc, err, "", Refused::Memory),

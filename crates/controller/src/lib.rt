@@ -1,9 +1,11 @@
 //! The controller: command words and files in, a report and printed lines out. It loads, checks and compiles a cell,
-//! runs it round-robin or on threads, and prints the run, the tables or the refusal.
+//! runs it round-robin or on threads or audits a history of it, and prints the run, the tables, what was found or the
+//! refusal.
 #![tactic(auto)]
 
 mod accepted;
 mod action;
+mod audit_cell;
 mod check;
 mod code;
 mod files;
@@ -13,6 +15,7 @@ mod list;
 mod load_cell;
 mod modules;
 mod print;
+mod print_audit;
 mod print_list;
 mod print_summary;
 mod refused;

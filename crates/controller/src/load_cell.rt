@@ -29,9 +29,9 @@ pub(crate) fn load_cell<E: Sink>(
 ) -> Result<CheckedCell, Report>
     requires action { command.now.action ≡ Action.Load moves }
     requires moves { AreMoves moves }
-    ensures refused { IfErr result (λ report. (words : List (List ℕ)) (told : Option Told) (held : Seen) → AreFor words command.now.action command.now.script.now → AnswersWords words told report (untouched held) (sunk E.told E.calls E.faults err.old err.new)) }
+    ensures refused { IfErr result (λ report. (words : List (List ℕ)) (told : Option Told) (held : Seen) → AreFor words command.now.action command.now.script.now command.now.history.now → AnswersWords words told report (untouched held) (sunk E.told E.calls E.faults err.old err.new)) }
     ensures causes { IfErr result (λ report. (old new : ℕ) → IfSome report.refused (IsLoadFault old new)) }
-    ensures asked { IfOk result (λ accepted. (words : List (List ℕ)) (told : Option Told) → AreFor words command.now.action command.now.script.now → IsAsked words told command.now.action (made_of accepted)) }
+    ensures asked { IfOk result (λ accepted. (words : List (List ℕ)) (told : Option Told) (text : List ℕ) → AreFor words command.now.action command.now.script.now command.now.history.now → IsAsked words told command.now.action (made_of accepted) text) }
     ensures script { IfOk result (λ accepted. HasScript (made_of accepted)) }
     ensures untold { IfOk result (λ _. err.new ≡ err.old) }
 {

@@ -42,7 +42,7 @@ impl ModuleRule {
 }
 
 /// Why a run was refused, or could not be printed. Files are numbered in the order in which they are read: 0 is the
-/// script, and the modules follow from 1.
+/// script, the modules follow from 1, and a history is the last.
 #[derive(Debug, Drop)]
 pub enum Refused {
     /// The command word at this position, from 0, is wrong or missing.
@@ -71,6 +71,10 @@ pub enum Refused {
     /// A file has more bytes than its limit.
     TooLong {
         file: u32,
+    },
+    /// The first line, by its number from 1, with which the lines so far no longer start any history of the cell.
+    History {
+        line: u32,
     },
 }
 
@@ -103,6 +107,7 @@ impl Refused {
             Refused::Write => 6,
             Refused::Memory => 7,
             Refused::TooLong { .. } => 10,
+            Refused::History { .. } => 11,
         }
     }
 
@@ -114,9 +119,11 @@ impl Refused {
             Refused::Module { file, .. } | Refused::Read { file } | Refused::TooLong { file } => {
                 Some(*file)
             }
-            Refused::Words { .. } | Refused::Script { .. } | Refused::Write | Refused::Memory => {
-                None
-            }
+            Refused::Words { .. }
+            | Refused::Script { .. }
+            | Refused::Write
+            | Refused::Memory
+            | Refused::History { .. } => None,
         }
     }
 }
@@ -156,6 +163,12 @@ fn write_refusal<E: Sink>(err: &mut E, name: &str, refused: &Refused) -> Result<
         Refused::Write => write_line(err, b"rapid_cell: write", b"", b"", b""),
         Refused::Memory => write_line(err, b"rapid_cell: memory", b"", b"", b""),
         Refused::TooLong { .. } => write_line(err, b"rapid_cell: long ", name, b"", b""),
+        Refused::History { line } => {
+            let mut digits = ArrayString::<20>::new();
+            push_count(*line as usize, &mut digits);
+            let text = digits.as_str().as_bytes();
+            write_line(err, b"rapid_cell: history ", text, b"", b"")
+        }
     }
 }
 

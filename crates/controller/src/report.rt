@@ -18,6 +18,7 @@ use std::alloc::Global;
 ///
 /// Without a refusal the status is 0 for `check` and `list`. For a run it is 0 if every task ended without a fault, 1
 /// if every task ended and one with a fault, 8 if no task that has not ended can go on, and 9 if the steps are spent.
+/// For `audit` it is 0 if nothing is wrong with the history, and 12 otherwise.
 #[derive(Debug, Drop)]
 pub struct Report {
     pub status: u8,

@@ -5,6 +5,7 @@ ghost use Rattle.stack_code.specs.Compiled.{compiled};
 ghost use Rattle.task_code.specs.Asking.{CodeAsks};
 ghost use Rattle.task_code.specs.Live.{CodeFits};
 ghost use Rattle.code_laws.specs.Checked.{IsChecked};
+ghost use Rattle.rapid_model.specs.CellData.{IsCell};
 ghost use Rattle.cell_meaning.specs.Asking.{with_inputs};
 ghost use Rattle.cell_meaning.specs.Fates.{fates_after};
 ghost use Rattle.cell_meaning.specs.Histories.{IsLegal, IsWhole};
@@ -51,6 +52,7 @@ pub(crate) fn run_cell<O: Sink, E: Sink>(
     accepted_tasks_ask_as_their_code();
     accepted_code_suits_its_task();
     let CheckedCell { cell, trees } = accepted;
+    within_limits(&cell);
     match run_tasks::<Brand>(alloc, cell, trees.as_slice()) {
         Ok(core) => report_run(core, shown, out, err),
         Err(_) => refuse(alloc, err, "", Refused::Memory),
@@ -133,6 +135,13 @@ pub(crate) fn report_run<O: Sink, E: Sink>(
             }
         }
     }
+}
+
+/// A cell is within its limits.
+pub(crate) fn within_limits(cell: &Cell)
+    ensures { IsCell cell.now }
+{
+    prove!(cell.steps() > 0);
 }
 
 /// The status of a printed run: if all tasks ended, 1 if one ended with a fault, else 0; otherwise 9 if the steps are

@@ -5,8 +5,9 @@ ghost use Rattle.controller.specs.Loaded.{names_in_turn, bytes_of, IsScriptIn, I
 
 use crate::refused::Refused;
 use cell_script::{ScriptFault, read_script};
+use command_words::{Action, Command};
 use outside::{Shelf, ShelfFault};
-use rapid_limits::{MODULE_BYTES, SCRIPT_BYTES};
+use rapid_limits::{HISTORY_BYTES, MODULE_BYTES, SCRIPT_BYTES};
 use rapid_model::Script;
 use std::alloc::Global;
 
@@ -59,6 +60,7 @@ pub(crate) fn load_texts<S: Shelf>(alloc: Global, shelf: &mut S, modules: &[&str
     ensures unread { IfSome result.failed (λ refused. IsUnread (length result.texts.items + 1) refused × (length result.texts.items < length modules.now)) }
     // In terms of what was reported before the script was read.
     ensures told { (told : Told) → S.told shelf.old ≡ Some (after_reads 1 told) → AreTexts (told_reads told) 1 (names_in_turn modules.now) (bytes_of result.texts.items) result.failed }
+    ensures told_after { result.failed ≡ None → (told : Told) → S.told shelf.old ≡ Some (after_reads 1 told) → S.told shelf.new ≡ Some (after_reads (length modules.now + 1) told) }
 {
     let mut texts = Vec::new(alloc);
     for (k, name) in modules.iter().enumerate() {
@@ -84,6 +86,26 @@ pub(crate) fn load_texts<S: Shelf>(alloc: Global, shelf: &mut S, modules: &[&str
     Texts {
         texts,
         failed: None,
+    }
+}
+
+/// The text of the file that an action reads last, by its number: for `audit` the history. Other actions read no such
+/// file, and it is empty.
+pub(crate) fn load_last<S: Shelf>(
+    alloc: Global,
+    shelf: &mut S,
+    command: &Command<'_>,
+    file: u32,
+) -> Result<Vec<u8>, Refused>
+    ensures faults { S.faults shelf.old ≤ S.faults shelf.new }
+    ensures causes { IfErr result (IsLoadFault (S.faults shelf.old) (S.faults shelf.new)) }
+    ensures unread { IfErr result (λ refused. (command.now.action ≡ Action.Audit) × IsUnread file refused) }
+    ensures within { IfOk result (λ text. length text.items ≤ HISTORY_BYTES) }
+    ensures gives { command.now.action ≡ Action.Audit → IfSome (S.told shelf.old) (λ told. GivesText (text_of file HISTORY_BYTES (found told command.now.history.now)) result) }
+{
+    match command.action {
+        Action::Audit => read_file(alloc, shelf, file, HISTORY_BYTES, command.history),
+        _ => Ok(Vec::new(alloc)),
     }
 }
 

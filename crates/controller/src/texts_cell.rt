@@ -1,13 +1,13 @@
-ghost use Rattle.std.specs.Prelude.{◌≡◌, ◌<◌, ◌^◌, ℕ, List, Some, Ok, IfOk, IfErr, IfSome, All, length};
+ghost use Rattle.std.specs.Prelude.{◌≡◌, ◌<◌, ◌^◌, ℕ, List, None, Some, Ok, IfOk, IfErr, IfSome, All, length};
 ghost use Rattle.rapid_model.specs.ScriptData.{module_names};
 ghost use Rattle.outside.specs.Told.{Told};
 ghost use Rattle.std.specs.Prelude.{Option};
-ghost use Rattle.controller.specs.Accepted.{checked};
-ghost use Rattle.controller.specs.Files.{IsLoadFault};
+ghost use Rattle.controller.specs.Accepted.{ActionReads, checked};
+ghost use Rattle.controller.specs.Files.{IsLoadFault, Reads};
 ghost use Rattle.controller.specs.Loaded.{bytes_of, file_names, made_of, names_in_turn, reads_in, ArePaired, AreSpelled, HasScript, IsWithin};
 ghost use Rattle.controller.specs.Printed.{sunk, Seen};
 ghost use Rattle.controller.specs.Answered.{untouched, AnswersReads, AnswersWords};
-ghost use Rattle.controller.specs.Asked.{GiveTexts, IsAsked};
+ghost use Rattle.controller.specs.Asked.{GiveTexts, IsToDo};
 
 use crate::check::{CheckedCell, check_modules};
 use crate::modules::{Modules, parse_texts};
@@ -33,10 +33,11 @@ pub(crate) fn texts_cell<E: Sink>(
     requires few { length found.texts.items < 2 ^ 31 }
     requires within { All IsWithin found.texts.items }
     // After a refusal nothing more is done, and the first sink gained nothing.
-    ensures refused { IfErr result (λ report. (words : List (List ℕ)) (told : Option Told) (held : Seen) → GiveTexts words told command.now.action command.now.script.now script.now (bytes_of found.texts.items) found.failed → AnswersWords words told report (untouched held) (sunk E.told E.calls E.faults err.old err.new)) }
+    ensures refused { IfErr result (λ report. (words : List (List ℕ)) (told : Option Told) (held : Seen) → GiveTexts words told command.now.action command.now.script.now command.now.history.now script.now (bytes_of found.texts.items) found.failed → AnswersWords words told report (untouched held) (sunk E.told E.calls E.faults err.old err.new)) }
     ensures causes { IfErr result (λ report. (old new : ℕ) → IfSome found.failed (IsLoadFault old new) → IfSome report.refused (IsLoadFault old new)) }
     // Otherwise the action is to be done with this cell.
-    ensures asked { IfOk result (λ accepted. (words : List (List ℕ)) (told : Option Told) → GiveTexts words told command.now.action command.now.script.now script.now (bytes_of found.texts.items) found.failed → IsAsked words told command.now.action (made_of accepted)) }
+    ensures asked { IfOk result (λ accepted. (words : List (List ℕ)) (told : Option Told) (given : GiveTexts words told command.now.action command.now.script.now command.now.history.now script.now (bytes_of found.texts.items) found.failed) → IsToDo words told (ActionReads (Some command.now.action) given.given.gave command.now.history.now) (file_names command.now.script.now files.now) (made_of accepted)) }
+    ensures whole { IfOk result (λ _. found.failed ≡ None) }
     ensures script { IfOk result (λ accepted. HasScript (made_of accepted)) }
     ensures untold { IfOk result (λ _. err.new ≡ err.old) }
 {
@@ -65,7 +66,7 @@ fn cell_of<E: Sink>(
 ) -> Result<CheckedCell, Report>
     requires paired { ArePaired modules.now }
     requires spelled { AreSpelled (reads_in modules.now) }
-    ensures refused { IfErr result (λ report. (held : Seen) → AnswersReads (Some command.now.action) (file_names command.now.script.now files.now) script.now (reads_in modules.now) report (untouched held) (sunk E.told E.calls E.faults err.old err.new)) }
+    ensures refused { IfErr result (λ report. (gave : Reads) (held : Seen) → AnswersReads (ActionReads (Some command.now.action) gave command.now.history.now) (file_names command.now.script.now files.now) script.now (reads_in modules.now) report (untouched held) (sunk E.told E.calls E.faults err.old err.new)) }
     ensures causes { IfErr result (λ report. (old new : ℕ) → IfSome report.refused (IsLoadFault old new)) }
     ensures gives { IfOk result (λ accepted. checked script.now (reads_in modules.now) ≡ Ok (made_of accepted)) }
     ensures script { IfOk result (λ accepted. HasScript (made_of accepted)) }

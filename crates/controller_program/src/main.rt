@@ -30,7 +30,9 @@ where
     let Ok(words) = given_words(rt) else {
         return controller::out_of_memory(rt.alloc(), &mut err).status;
     };
-    let mut shelf = FileShelf::new(rt, script_name(words.as_slice()));
+    let script = word_at(words.as_slice(), 1);
+    let history = word_at(words.as_slice(), 2);
+    let mut shelf = FileShelf::with_history(rt, script, history);
     let report = controller::controller(
         rt,
         rt.alloc(),
@@ -74,13 +76,18 @@ fn given_word<R: Env + AllocGlobal>(rt: &R, index: usize) -> Result<Option<Vec<u
     Err(AllocError)
 }
 
-/// The name of the script's file in command words that are not refused: the last one that is not `--history`.
-fn script_name(words: &[Vec<u8>]) -> &str {
-    let mut name = "";
+/// The word with this index among those that are not `--history`: the action has 0, its files' names follow. Empty if it
+/// is missing or not valid UTF-8.
+fn word_at(words: &[Vec<u8>], index: usize) -> &str {
+    let mut left = index;
     for word in words {
-        if word.as_slice() != b"--history".as_slice() {
-            name = str::from_utf8(word.as_slice()).unwrap_or("");
+        if word.as_slice() == b"--history".as_slice() {
+            continue;
         }
+        if left == 0 {
+            return str::from_utf8(word.as_slice()).unwrap_or("");
+        }
+        left -= 1;
     }
-    name
+    ""
 }

@@ -1,10 +1,11 @@
 //! Runs the examples in its folder, and prints of each run whether the status and the lines are those kept with the
 //! example; of `run` the status and the fates of the tasks. A line of the standard input names an action and an
-//! example; `history` is `round` with the whole history.
+//! example; `history` is `round` with the whole history. For `audit` the whole histories that `round` and `run` print are
+//! audited: each must be found legal and whole, with an event for each of its lines of events.
 #![tactic(auto)]
 
 use anyhow::Context;
-use outside::{FileShelf, MemorySink, NoPace};
+use outside::{FileShelf, MemorySink, NoPace, StreamSink};
 use std::fs;
 use std::rt::Files;
 use std::sync::Wait;
@@ -13,33 +14,88 @@ use std::thread::Threads;
 /// The most bytes that a run may print.
 const ROOM: usize = 65_536;
 
+/// The file of the history that is audited.
+const PRINTED: &str = "printed_history";
+
 fn main(rt: HostRuntime) -> anyhow::Result<()> {
     for line in rt.lines(rt.alloc()) {
         let line = line?;
         let (action, example) = line.as_str().split_once(' ').context("two words a line")?;
-        let wanted = fs::read(
-            &rt,
-            format!(in rt.alloc(); "{example}/{action}.txt")?.as_str(),
-        )?;
-        let got = run(&rt, action, example)?;
-        if got == wanted {
+        let agrees = match action {
+            "audit" => passes(&rt, "round", example)? && passes(&rt, "run", example)?,
+            _ => is_as_kept(&rt, action, example)?,
+        };
+        if agrees {
             println!(rt; "{action} {example}")?;
-        } else {
-            println!(rt;
-                "{action} {example} differs:\n{}",
-                got.as_slice().escape_ascii()
-            )?;
         }
     }
     Ok(())
 }
 
-/// The status of an action on an example and what it prints, as kept with the examples.
-fn run<R: Files + AllocGlobal + Threads + Wait + Sync>(
-    rt: &R,
+/// Whether an action on an example ends and prints as kept with the example. If not, prints what it does.
+fn is_as_kept(rt: &HostRuntime, action: &str, example: &str) -> anyhow::Result<bool> {
+    let kept = format!(in rt.alloc(); "{example}/{action}.txt")?;
+    let wanted = fs::read(rt, kept.as_str())?;
+    let got = run(rt, action, example)?;
+    compare(rt, action, example, got.as_slice(), wanted.as_slice())
+}
+
+/// Whether the whole history that an action prints of an example is found legal and whole. If not, prints what is found.
+fn passes(rt: &HostRuntime, action: &str, example: &str) -> anyhow::Result<bool> {
+    let script = format!(in rt.alloc(); "{example}/cell.toml")?;
+    let script = script.as_str();
+    print_history(rt, action, script)?;
+    let events = lines_of_events(fs::read(rt, PRINTED)?.as_slice());
+    let wanted = format!(in rt.alloc(); "status 0\nA legal {events} whole\n")?;
+    let got = told_by(rt, &["audit", script, PRINTED], script, true)?;
+    fs::remove_file(rt, PRINTED)?;
+    compare(rt, "audit", example, got.as_slice(), wanted.as_bytes())
+}
+
+/// Writes the whole history that an action prints into the file that is audited.
+fn print_history(rt: &HostRuntime, action: &str, script: &str) -> anyhow::Result<()> {
+    let mut shelf = FileShelf::new(rt, script);
+    let mut out = StreamSink::new(fs::create(rt, PRINTED)?);
+    let mut err = MemorySink::new(rt.alloc(), ROOM, Vec::new(rt.alloc()))
+        .ok()
+        .context("memory")?;
+    let words = &["--history", action, script];
+    controller::controller(
+        rt,
+        rt.alloc(),
+        words,
+        &mut shelf,
+        &mut out,
+        &mut err,
+        &NoPace,
+    );
+    Ok(())
+}
+
+/// How many lines of a text are those of events.
+fn lines_of_events(text: &[u8]) -> usize {
+    text.split(|byte| *byte == b'\n')
+        .filter(|line| line.starts_with(b"H "))
+        .count()
+}
+
+/// Whether an action told what is wanted. If not, prints what it told.
+fn compare(
+    rt: &HostRuntime,
     action: &str,
     example: &str,
-) -> anyhow::Result<Vec<u8>> {
+    got: &[u8],
+    wanted: &[u8],
+) -> anyhow::Result<bool> {
+    if got == wanted {
+        return Ok(true);
+    }
+    println!(rt; "{action} {example} differs:\n{}", got.escape_ascii())?;
+    Ok(false)
+}
+
+/// The status of an action on an example and what it prints, as kept with the examples.
+fn run(rt: &HostRuntime, action: &str, example: &str) -> anyhow::Result<Vec<u8>> {
     let script = format!(in rt.alloc(); "{example}/cell.toml")?;
     let script = script.as_str();
     match action {
@@ -59,7 +115,7 @@ fn told_by<R: Files + AllocGlobal + Threads + Wait + Sync>(
     all: bool,
 ) -> anyhow::Result<Vec<u8>> {
     let alloc = rt.alloc();
-    let mut shelf = FileShelf::new(rt, script);
+    let mut shelf = FileShelf::with_history(rt, script, PRINTED);
     let mut out = MemorySink::new(alloc, ROOM, Vec::new(alloc))
         .ok()
         .context("memory")?;

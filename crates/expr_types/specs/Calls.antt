@@ -1,5 +1,6 @@
 -- What is called, and its arguments as a list: needed ones in order, with options anywhere among them.
-use Rattle.std.specs.Prelude.{ℕ, Bool, true, false, not, ◌&&◌, ◌||◌, ◌+◌, ◌==◌, nat_lt, nat_le, List, [], ◌∷◌, ◌++◌, codes, length, map, drop, Option, Some, None, Ok, if◌then◌else◌}
+use Rattle.std.specs.Prelude.{ℕ, Bool, true, false, not, ◌&&◌, ◌||◌, ◌+◌, ◌-◌, ◌==◌, nat_lt, nat_le, List, [], ◌∷◌, ◌++◌, codes, length, map, drop, Option, Some, None, Ok, if◌then◌else◌}
+use Rattle.std.specs.List.{list_any}
 use Rattle.std.specs.Option.{option_map}
 use Rattle.std.specs.Str.{str_eq_ignore_ascii_case}
 use Rattle.rapid_limits.specs.declared.TheConstants.{MOST_ARGUMENTS}
@@ -11,6 +12,7 @@ use Rattle.rapid_model.specs.declared.instruction.Instruction.{Instruction}
 use Rattle.rapid_model.specs.declared.sort.Sort.{Sort}
 use Rattle.rapid_model.specs.declared.sort.Sort.TheVariants as sorts
 use Rattle.rapid_model.specs.Names.{is_among}
+use Rattle.rapid_model.specs.Truths.{same_truth}
 use Rattle.rapid_builtins.specs.Calls.{OptionRow, option_named, options, choice, instruction_needs, needs_arm, function_needs, function_result, function_needs_arm}
 use Rattle.rapid_builtins.specs.declared.need.Need.{Need}
 use Rattle.rapid_builtins.specs.declared.need.Need.TheVariants as needs
@@ -104,10 +106,10 @@ all_in (MoreArgs a more) = all_in more + 1
 abbrev pub are_counted : PlainArgs → ℕ → Bool
 are_counted args count = needed_in args == count && nat_le (all_in args) MOST_ARGUMENTS
 
--- there is an option if one is required
+-- as many options as are required, among options that do not exclude each other
 abbrev pub are_chosen : Choice → PlainArgs → Bool
 are_chosen choices.JustOne args = not (all_in args == needed_in args)
-are_chosen choices.Never args = false
+are_chosen choices.InsideAndOne args = all_in args - needed_in args == 2
 are_chosen _ args = true
 
 -- the rules of a call, after those of its arguments as many arguments as needed, and valid options
@@ -130,9 +132,17 @@ abbrev pub needed : Site → List Need → PlainExpr → (Wanted → Checked Typ
 needed site [] e value index = value Any >>= (λ t. Ok (Given t))
 needed site (need ∷ more) e value index = argument site need e value index
 
--- an option is not allowed after those before it: it is one of them, or it excludes them
+abbrev pub is_inside : List ℕ → Bool
+is_inside name = str_eq_ignore_ascii_case (codes "Inside") name
+
+-- `Inside` excludes itself alone, and each other option all others
+abbrev pub is_like : List ℕ → List ℕ → Bool
+is_like name other = same_truth (is_inside name) (is_inside other)
+
+-- an option is not allowed after those before it: it is one of them, or it excludes one of them
 abbrev pub is_excluded : Choice → List ℕ → List (List ℕ) → Bool
 is_excluded choices.Any name before = is_among name before
+is_excluded choices.InsideAndOne name before = list_any (is_like name) before
 is_excluded _ name before = not (length before == 0)
 
 abbrev pub may_stand : Site → Taking → ℕ → List ℕ → Checked (Unit {0})
@@ -177,7 +187,7 @@ abbrev pub after : Taking → PlainArg → Taking
 after t (Needed e) = record { needs = drop 1 t.needs; options = t.options; choice = t.choice; before = t.before }
 after t (Optional name held at) = with_option t (option_named name.text t.options)
 
--- WZLimSup: the zone's variable has the type that the first of the options Temp and Stat determines
+-- WZLimSup, WZDOSet: the zone's variable has the type that the first of the options Temp and Stat determines
 abbrev pub zone_need : PlainArgs → Need
 zone_need NoArgs = needs.WorldZone
 zone_need (MoreArgs (Needed e) more) = zone_need more

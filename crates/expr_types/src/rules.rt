@@ -42,14 +42,14 @@ fn all_in(args: &[RawArg<'_>]) -> usize
     args.len()
 }
 
-/// Whether there is an option if one is required, and some call is valid.
+/// Whether there are as many options as are required, among options that do not exclude each other.
 fn are_chosen(choice: Choice, args: &[RawArg<'_>]) -> bool
     ensures { result ≡ Calls.are_chosen choice (args_of (map view_raw_arg args.now)) }
 {
     match choice {
         Choice::JustOne => all_in(args) != needed_in(args),
         Choice::Any | Choice::OneAtMost => true,
-        Choice::Never => false,
+        Choice::InsideAndOne => all_in(args).saturating_sub(needed_in(args)) == 2,
     }
 }
 

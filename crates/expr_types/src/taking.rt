@@ -1,6 +1,7 @@
 //! Taking the arguments of a call, one after the other.
 
 ghost use Rattle.std.specs.Prelude.{◌≡◌, map, option_map, Ok};
+ghost use Rattle.std.specs.List.{list_any};
 ghost use Rattle.std.specs.Str.{str_eq_ignore_ascii_case};
 ghost use Rattle.rapid_model.specs.Names;
 ghost use Rattle.rapid_builtins.specs.declared.instruction_option.InstructionOption.{InstructionOption};
@@ -72,12 +73,13 @@ fn with_option<'a>(
     Ok(taking)
 }
 
-/// Whether an option is not allowed after those before it: it is one of them, or it excludes them.
+/// Whether an option is not allowed after those before it: it is one of them, or it excludes one of them.
 pub(crate) fn is_excluded(taking: &Taking<'_>, name: &[u8]) -> bool
     ensures { result ≡ Calls.is_excluded taking.now.choice name.now (view_taking taking.now).before }
 {
     match taking.choice {
         Choice::Any => is_among(name, &taking.before),
+        Choice::InsideAndOne => is_any_like(name, &taking.before),
         _ => !taking.before.is_empty(),
     }
 }
@@ -99,4 +101,29 @@ fn is_among(name: &[u8], options: &[InstructionOption]) -> bool
         }
     }
     false
+}
+
+/// Whether one of the options excludes the one with this name, which `Inside` does not if the name is another.
+fn is_any_like(name: &[u8], options: &[InstructionOption]) -> bool
+    ensures { result ≡ list_any (Calls.is_like name.now) (map (λ (o : InstructionOption). o.name.now) options.now) }
+{
+    for option in options {
+        if is_like(name, option) {
+            return true;
+        }
+    }
+    false
+}
+
+/// Whether both the name and the option are `Inside`, or neither is.
+fn is_like(name: &[u8], option: &InstructionOption) -> bool
+    ensures { result ≡ Calls.is_like name.now option.now.name.now }
+{
+    is_inside(name) == is_inside(option.name)
+}
+
+fn is_inside(name: &[u8]) -> bool
+    ensures { result ≡ Calls.is_inside name.now }
+{
+    b"Inside".eq_ignore_ascii_case(name)
 }

@@ -1,4 +1,4 @@
-//! The variable of a world zone (RAPID Instructions, Functions and Data types, WZLimSup).
+//! The variable of a world zone (RAPID Instructions, Functions and Data types, WZLimSup, WZDOSet).
 
 ghost use Rattle.std.specs.Prelude.{◌≡◌, map};
 ghost use Rattle.raw_trees.specs.Plain.{args_of};

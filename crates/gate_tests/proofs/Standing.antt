@@ -12,7 +12,6 @@ use Rattle.rapid_model.specs.declared.fate.Fate.{Fate}
 use Rattle.rapid_model.specs.declared.request.Request.{Request}
 use Rattle.rapid_model.specs.declared.request.Request.TheVariants as requests
 use Rattle.rapid_model.specs.declared.task_row.TaskRow.{TaskRow}
-use Rattle.cell_meaning.specs.MayAsk.{is_offered}
 use Rattle.cell_meaning.proofs.Asked.{suits_by}
 use Rattle.cell_meaning.proofs.MoreEvents.{end_of-more}
 use Rattle.cell_core.specs.Serving.{event_of}
@@ -24,17 +23,17 @@ use Rattle.cell_gate.specs.declared.acted.Acted.TheVariants as ways
 use Rattle.gate_tests.specs.Passes.{IsGoing, IsHeld}
 
 -- a task that goes on may ask this, which suits any task and is not a Rise
-pub goes : (pass : PassData) (request : Request) → IsGoing pass → is_offered request ≡ true → is_rise request ≡ false → ((row : TaskRow) → suits_task pass.gate.cell row pass.mine request ≡ true)
+pub goes : (pass : PassData) (request : Request) → IsGoing pass → is_rise request ≡ false → ((row : TaskRow) → suits_task pass.gate.cell row pass.mine request ≡ true)
     → MayAsk pass request
-goes pass request going served plain suits =
+goes pass request going plain suits =
     elim (slice_get_cases pass.gate.cell.tasks pass.actor).1 [
-      | inl it ↦ ap (λ (row : Option TaskRow). is_offered request && suits_by pass.gate.cell pass.actor pass.mine request row) it.2
-          ∙ all (is_offered request) (has_ended pass.mine) (is_held pass.mine) (is_rise request) (suits_task pass.gate.cell it.0 pass.mine request) served going.alive going.free plain (suits it.0)
+      | inl it ↦ ap (suits_by pass.gate.cell pass.actor pass.mine request) it.2
+          ∙ all (has_ended pass.mine) (is_held pass.mine) (is_rise request) (suits_task pass.gate.cell it.0 pass.mine request) going.alive going.free plain (suits it.0)
       | inr past ↦ (let le = past.0 in let within = going.within in absurd (omega (arith, within, le)))
     ]
   where
-    all : (served ended held rise suits : Bool) → served ≡ true → ended ≡ false → held ≡ false → rise ≡ false → suits ≡ true → (served && ((not ended && goes_with held rise) && suits)) ≡ true
-    all served ended held rise suits p q r s t = rw (p, q, r, s, t) refl
+    all : (ended held rise suits : Bool) → ended ≡ false → held ≡ false → rise ≡ false → suits ≡ true → ((not ended && goes_with held rise) && suits) ≡ true
+    all ended held rise suits p q r s = rw (p, q, r, s) refl
 
 within_same : (old new : PassData) → IsSameHolder old new → old.actor < length old.gate.cell.tasks → new.actor < length new.gate.cell.tasks
 within_same old new same within =

@@ -22,13 +22,13 @@ use Rattle.cell_meaning.proofs.ValuesKept.{test_of}
 use Rattle.history_text.specs.Named.{has_part, has_pers, is_part, pers_sort}
 use Rattle.history_laws.specs.Shown.{names_in}
 
--- an arm without external axes has six
-pub six_axes : (axes : ℕ) (arm : Option Joints) → is_start axes arm ≡ true → is_some arm ≡ true → axes ≤ 6 → axes ≡ 6
-six_axes axes None starts has few = absurd (false≢true has)
-six_axes axes (Some at) starts has few =
+-- an arm has axes
+pub some_axes : (axes : ℕ) (arm : Option Joints) → is_start axes arm ≡ true → is_some arm ≡ true → nat_lt 0 axes ≡ true
+some_axes axes None starts has = absurd (false≢true has)
+some_axes axes (Some at) starts has =
     let within : is_within 6 12 axes ≡ true = (and_parts (is_within 6 12 axes) (is_position axes at) starts).0 in
     let many : 6 ≤ axes = leb-true 6 axes (and_parts (nat_le 6 axes) (nat_le axes 12) within).0 in
-    omega (arith, few, many)
+    lt-ltb 0 axes (omega (arith, many))
 
 -- a part that some value has
 num_there : (b : Bool) → is_some (num_where b) ≡ true → b ≡ true

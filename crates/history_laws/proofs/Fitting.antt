@@ -1,4 +1,4 @@
--- A legal history of a cell without external axes fits the cell's names, and its lines are its own.
+-- A legal history of a cell fits the cell's names, and its lines are its own.
 use Rattle.std.proofs.Common.{◌≡◌, ℕ, List, [], length, refl, arith}
 use Rattle.std.specs.Prelude.{IsTrue}
 use Rattle.std.specs.List.{AllByRecursion, concat}
@@ -17,7 +17,7 @@ use Rattle.history_text.specs.Named.{event_fits}
 use Rattle.history_text.proofs.NamesApart.{cell_is_named}
 use Rattle.history_text.proofs.NextLines.{spelled_has_no_fault}
 use Rattle.history_text.proofs.OneHistory.{read_once}
-use Rattle.history_laws.specs.Shown.{HasNoExternalAxes, names_in}
+use Rattle.history_laws.specs.Shown.{names_in}
 use Rattle.cell_meaning.proofs.Fates.{length-fates_after}
 use Rattle.history_laws.proofs.Fates.{fates_in}
 use Rattle.history_laws.proofs.Lists.{both_all, from_cuts}
@@ -26,7 +26,6 @@ use Rattle.history_laws.proofs.Named.{event_named}
 -- a legal history of a program, and who asks
 pub record Legal (asks : Asking) (cell : CellData) (history : List Event) : Type 0 where
   pub limits : IsCell cell
-  pub axes : HasNoExternalAxes cell
   pub may : AsksWhatItMay asks cell
   pub legal : IsLegal asks cell history
   pub ranges : AllByRecursion IsEvent history
@@ -38,7 +37,7 @@ pub legal_fits : (asks : Asking) (cell : CellData) (history : List Event) → Le
 legal_fits asks cell history h = record {
   events = both_all IsEvent (λ e. IsTrue (event_fits (names_in cell) e)) history h.ranges
       (from_cuts (λ e. IsTrue (event_fits (names_in cell) e)) history [] history refl
-      (λ before after e is. event_named cell (part_of e.actor before) e h.limits h.axes (answered.might before after e is) (h.legal.fits before after e is)));
+      (λ before after e is. event_named cell (part_of e.actor before) e h.limits (answered.might before after e is) (h.legal.fits before after e is)));
   fates = fates_in cell history (length cell.tasks) h.ranges;
   few = let count : length (fates_of cell history) ≡ length cell.tasks = length-fates_after cell history (length cell.tasks) in omega (arith, count);
 }

@@ -1,5 +1,5 @@
 -- An answer that was written is read back, given its request.
-use Rattle.std.proofs.Common.{◌≡◌, ℕ, ◌^◌, Bool, true, false, List, ◌∷◌, ◌++◌, Some, refl, ap, ◌∙◌, arith, decimal, append_assoc}
+use Rattle.std.proofs.Common.{◌≡◌, ℕ, ◌^◌, Bool, true, false, nat_lt, List, ◌∷◌, ◌++◌, Some, refl, ap, ◌∙◌, arith, decimal, append_assoc}
 use Rattle.rapid_num.specs.Reach.{is_position}
 use Rattle.rapid_num.specs.declared.joints.Joints.{Joints}
 use Rattle.rapid_model.specs.declared.answer.Answer.{Answer}
@@ -13,11 +13,11 @@ use Rattle.rapid_model.specs.declared.zone_name.ZoneName.TheVariants as zones
 use Rattle.value_text.specs.ValueText.{truth_text, value_text}
 use Rattle.history_text.specs.EventWords.{answer_words, axes_words, bit_words, two_words, zone_name_words}
 use Rattle.history_text.specs.InRange.{AreNums, IsAnswer, IsU8, IsU32, IsValue, IsZoneName}
-use Rattle.history_text.specs.Named.{NamesData, answer_fits}
+use Rattle.history_text.specs.Named.{NamesData, answer_fits, axes_of, request_fits}
 use Rattle.history_text.specs.Reading.{after_word}
 use Rattle.history_text.specs.EventReading.{answer_at, interrupt_answer_at, plain_answer_at, trap_at, zone_answer_at, zone_name_at}
 use Rattle.history_text.proofs.NumbersAgain.{whole_again}
-use Rattle.history_text.proofs.NumsAgain.{place_again}
+use Rattle.history_text.proofs.NumsAgain.{before_end, place_again}
 use Rattle.history_text.proofs.RequestsAgain.{bit_again, part_value_again}
 use Rattle.history_text.proofs.ValuesAgain.{truth_again}
 
@@ -70,23 +70,23 @@ plain_answer names requests.Position text h = absurd cc
 plain_answer names _ text h = refl
 
 -- such a request has such answers
-plain_fits : (names : NamesData) (request : Request) (answer : Answer) → tells_alone request ≡ true → answer_fits names request answer ≡ true → is_plain answer ≡ true
-plain_fits names (requests.ReadP pers path) answer alone h = absurd cc
-plain_fits names (requests.TestSet pers path) answer alone h = absurd cc
-plain_fits names (requests.ReadS signal) answer alone h = absurd cc
-plain_fits names requests.Position answer alone h = absurd cc
-plain_fits names request (answers.Val value) alone h = absurd cc
-plain_fits names request (answers.Yes met) alone h = absurd cc
-plain_fits names request (answers.Bit bit) alone h = absurd cc
-plain_fits names request (answers.At place) alone h = absurd cc
-plain_fits names request _ alone h = refl
+plain_fits : (names : NamesData) (actor : ℕ) (request : Request) (answer : Answer) → tells_alone request ≡ true → answer_fits names actor request answer ≡ true → is_plain answer ≡ true
+plain_fits names actor (requests.ReadP pers path) answer alone h = absurd cc
+plain_fits names actor (requests.TestSet pers path) answer alone h = absurd cc
+plain_fits names actor (requests.ReadS signal) answer alone h = absurd cc
+plain_fits names actor requests.Position answer alone h = absurd cc
+plain_fits names actor request (answers.Val value) alone h = absurd cc
+plain_fits names actor request (answers.Yes met) alone h = absurd cc
+plain_fits names actor request (answers.Bit bit) alone h = absurd cc
+plain_fits names actor request (answers.At place) alone h = absurd cc
+plain_fits names actor request _ alone h = refl
 
 -- an answer that is read with the help of its request
 
-value_answer : (names : NamesData) (pers : ℕ) (path : Path) (value : Value) (more : List ℕ) → IsValue value → answer_fits names (requests.ReadP pers path) (answers.Val value) ≡ true
+value_answer : (names : NamesData) (actor pers : ℕ) (path : Path) (value : Value) (more : List ℕ) → IsValue value → answer_fits names actor (requests.ReadP pers path) (answers.Val value) ≡ true
     → answer_at names (requests.ReadP pers path) (value_text value ++ 10 ∷ more) ≡ Some (answers.Val value, 10 ∷ more)
 unfolding answer_at
-value_answer names pers path value more fits h = rw (part_value_again names pers path value (10 ∷ more) h fits refl refl) refl
+value_answer names actor pers path value more fits h = rw (part_value_again names pers path value (10 ∷ more) h fits refl refl) refl
 
 truth_answer : (names : NamesData) (pers : ℕ) (path : Path) (met : Bool) (more : List ℕ) → answer_at names (requests.TestSet pers path) (truth_text met ++ 10 ∷ more) ≡ Some (answers.Yes met, 10 ∷ more)
 unfolding answer_at
@@ -96,19 +96,19 @@ bit_answer : (names : NamesData) (signal : ℕ) (bit : Bool) (more : List ℕ) �
 unfolding answer_at
 bit_answer names signal bit more = rw (bit_again bit (10 ∷ more)) refl
 
-place_answer : (names : NamesData) (place : Joints) (more : List ℕ) → AreNums 12 place.axis → is_position 6 place ≡ true → answer_at names requests.Position (axes_words place ++ 10 ∷ more) ≡ Some (answers.At place, 10 ∷ more)
+place_answer : (names : NamesData) (axes : ℕ) (place : Joints) (more : List ℕ) → AreNums 12 place.axis → nat_lt 0 axes ≡ true → is_position axes place ≡ true → answer_at names requests.Position (axes_words place ++ 10 ∷ more) ≡ Some (answers.At place, 10 ∷ more)
 unfolding answer_at
-place_answer names place more fits h = rw (place_again place (10 ∷ more) fits h refl) refl
+place_answer names axes place more fits some h = rw (place_again axes place (10 ∷ more) fits some h refl (before_end more)) refl
 
-pub answer_again : (names : NamesData) (request : Request) (answer : Answer) (more : List ℕ) → IsAnswer answer → answer_fits names request answer ≡ true
+pub answer_again : (names : NamesData) (actor : ℕ) (request : Request) (answer : Answer) (more : List ℕ) → IsAnswer answer → request_fits names actor request ≡ true → answer_fits names actor request answer ≡ true
     → answer_at names request (answer_words answer ++ 10 ∷ more) ≡ Some (answer, 10 ∷ more)
-answer_again names (requests.ReadP pers path) (answers.Val value) more fits h = value_answer names pers path value more fits h
-answer_again names (requests.ReadP pers path) _ more fits h = absurd cc
-answer_again names (requests.TestSet pers path) (answers.Yes met) more fits h = truth_answer names pers path met more
-answer_again names (requests.TestSet pers path) _ more fits h = absurd cc
-answer_again names (requests.ReadS signal) (answers.Bit bit) more fits h = bit_answer names signal bit more
-answer_again names (requests.ReadS signal) _ more fits h = absurd cc
-answer_again names requests.Position (answers.At place) more fits h = place_answer names place more fits h
-answer_again names requests.Position _ more fits h = absurd cc
-answer_again names request answer more fits h =
-    plain_answer names request (answer_words answer ++ 10 ∷ more) refl ∙ plain_again answer more fits (plain_fits names request answer refl h)
+answer_again names actor (requests.ReadP pers path) (answers.Val value) more fits asked h = value_answer names actor pers path value more fits h
+answer_again names actor (requests.ReadP pers path) _ more fits asked h = absurd cc
+answer_again names actor (requests.TestSet pers path) (answers.Yes met) more fits asked h = truth_answer names pers path met more
+answer_again names actor (requests.TestSet pers path) _ more fits asked h = absurd cc
+answer_again names actor (requests.ReadS signal) (answers.Bit bit) more fits asked h = bit_answer names signal bit more
+answer_again names actor (requests.ReadS signal) _ more fits asked h = absurd cc
+answer_again names actor requests.Position (answers.At place) more fits asked h = place_answer names (axes_of names actor) place more fits asked h
+answer_again names actor requests.Position _ more fits asked h = absurd cc
+answer_again names actor request answer more fits asked h =
+    plain_answer names request (answer_words answer ++ 10 ∷ more) refl ∙ plain_again answer more fits (plain_fits names actor request answer refl h)

@@ -27,7 +27,7 @@ use Rattle.rapid_model.specs.declared.zone_name.ZoneName.TheVariants as zones
 use Rattle.history_text.specs.EventLines.{event_line}
 use Rattle.history_text.specs.EventWords.{request_words, answer_words}
 use Rattle.history_text.specs.HistoryText.{AreNamed, IsFirstFault, Spells, history_lines, lines_in}
-use Rattle.history_text.specs.InRange.{IsEvent, IsShape, IsText}
+use Rattle.history_text.specs.InRange.{AreNums, IsEvent, IsShape, IsText}
 use Rattle.history_text.specs.Named.{NamesData, event_fits}
 use Rattle.history_text.specs.NextLine.{HasCome, is_inner}
 use Rattle.history_text.specs.Lines.{fate_line}
@@ -109,6 +109,14 @@ position : event_line names.tasks (by 1 Position (At place)) ≡ codes "H B Posi
 unfolding digits names by place
 position = refl
 
+-- a seventh axis
+track : Joints
+track = record { axis = pos 0 ∷ pos 0 ∷ pos 0 ∷ pos 0 ∷ pos 0 ∷ pos 0 ∷ pos 1_500 ∷ absent ∷ absent ∷ absent ∷ absent ∷ absent ∷ [] }
+
+seventh : request_words (Setpoint track) ≡ codes "Setpoint 0 0 0 0 0 0 1.5"
+unfolding digits track
+seventh = refl
+
 stopped : answer_words (Stopped (zones.Cell 0)) ≡ codes "Stopped Cell 0"
 unfolding digits
 stopped = refl
@@ -179,11 +187,11 @@ unfolding digits
 fault = refl
 
 -- a history with each of these: a quote and a backslash in a text, negative nums with decimals, a part of an element, a
--- shape with one bound, and an order that ends when the interrupt fires
+-- shape with one bound, an order that ends when the interrupt fires, and a setpoint on a track
 
 worked_names : NamesData
 worked_names = record {
-  tasks = record { name = codes "A"; arm = None; axes = 0 } ∷ [];
+  tasks = record { name = codes "A"; arm = Some track; axes = 7 } ∷ [];
   signals = record { name = codes "d"; output = false; start = false } ∷ [];
   pers = record { name = codes "t"; owner = None; sort = sorts.JointTarget; len = Some 3; first = [] } ∷ [];
 }
@@ -194,30 +202,35 @@ axis_two = record { index = 3; part = parts.Axis 1 }
 worked_events : List Event
 worked_events =
     by 0 (Say (codes "a\"b\\") (tails.Num (negsuc 1_499))) answers.Ok ∷ by 0 (ReadP 0 axis_two) (Val (values.Num (negsuc 499)))
-    ∷ by 0 (ZoneSet 0 true shape) (Number 1) ∷ by 0 (Order 1 (watched.Signal 0 true) true) answers.Ok ∷ []
+    ∷ by 0 (ZoneSet 0 true shape) (Number 1) ∷ by 0 (Order 1 (watched.Signal 0 true) true) answers.Ok ∷ by 0 (Setpoint track) answers.Given ∷ []
 
 worked_lines : List (List ℕ)
 worked_lines =
     codes "H A Say \"a\"\"b\\\\\" -1.5 > Ok\n" ∷ codes "H A ReadP P0{3}.robax.rax_2 > -0.5\n"
-    ∷ codes "H A ZoneSet 0 Temp Inside -90:90.5 - - - - - - - - - - - > Number 1\n" ∷ codes "H A Order 1 D0 1 Single > Ok\n" ∷ codes "E A Done\n" ∷ []
+    ∷ codes "H A ZoneSet 0 Temp Inside -90:90.5 - - - - - - - - - - - > Number 1\n" ∷ codes "H A Order 1 D0 1 Single > Ok\n" ∷ codes "H A Setpoint 0 0 0 0 0 0 1.5 > Given\n"
+    ∷ codes "E A Done\n" ∷ []
 
 worked_range : AllByRecursion (λ e. IsEvent e × IsTrue (event_fits worked_names e)) worked_events
-unfolding by axis_two shape worked_names worked_events
+unfolding by axis_two shape track worked_names worked_events
 worked_range =
     let text : IsText (codes "a\"b\\") = record { short = omega arith; printable = (refl, (refl, (refl, (refl, tt)))) } in
+    let angles : AreNums 12 track.axis = record { count = refl; range = (record { size = omega arith }, (record { size = omega arith }, (record { size = omega arith }, (record { size = omega arith }, (record { size = omega arith }, (record { size = omega arith }, (record { size = omega arith }, (record { size = omega arith }, (record { size = omega arith }, (record { size = omega arith }, (record { size = omega arith }, (record { size = omega arith }, tt)))))))))))) } in
     let limits : IsShape shape = record { count = refl; bounds = ((record { size = omega arith }, record { size = omega arith }), (tt, (tt, (tt, (tt, (tt, (tt, (tt, (tt, (tt, (tt, (tt, tt)))))))))))) } in (
       (record { actor = omega arith; request = (text, record { size = omega arith }); answer = tt }, refl),
       (
         (record { actor = omega arith; request = (omega arith, record { element = omega arith; part = omega arith }); answer = record { size = omega arith } }, refl),
         (
           (record { actor = omega arith; request = (omega arith, limits); answer = omega arith }, refl),
-          ((record { actor = omega arith; request = (omega arith, omega arith); answer = tt }, refl), tt),
+          (
+            (record { actor = omega arith; request = (omega arith, omega arith); answer = tt }, refl),
+            ((record { actor = omega arith; request = angles; answer = tt }, refl), tt),
+          ),
         ),
       ),
     )
 
 worked : Spells worked_names (concat worked_lines) worked_events (Done ∷ [])
-unfolding digits by axis_two shape worked_names worked_events worked_lines
+unfolding digits by axis_two shape track worked_names worked_events worked_lines
 worked = record { history = record { events = worked_range; fates = (tt, tt); few = omega arith }; text = refl }
 
 -- the fourth line without its end is the first that is no line of a history

@@ -93,14 +93,14 @@ regroup_line a r w more = simp append_assoc
 pub event_again : (names : NamesData) (e : Event) (more : List ℕ) → AreNamed names.tasks → IsEvent e → event_fits names e ≡ true → event_at names (event_line names.tasks e ++ more) ≡ Some e
 unfolding event_at after_word
 event_again names e more named range fits =
-    let parts = and_parts (has_actor names e.actor) (request_fits names e.actor e.request && answer_fits names e.request e.answer) fits in
-    let both = and_parts (request_fits names e.actor e.request) (answer_fits names e.request e.answer) parts.1 in
+    let parts = and_parts (has_actor names e.actor) (request_fits names e.actor e.request && answer_fits names e.actor e.request e.answer) fits in
+    let both = and_parts (request_fits names e.actor e.request) (answer_fits names e.actor e.request e.answer) parts.1 in
     let few : e.actor ≤ length names.tasks = grind (arith, nat_tests) in
     let after = answer_words e.answer ++ 10 ∷ more in
     ap (event_at names) (regroup_line (actor_words names.tasks e.actor) (request_words e.request) (answer_words e.answer) more) ∙ rw (
       actor_again names.tasks e.actor (request_words e.request ++ 32 ∷ 62 ∷ 32 ∷ after) named few range.actor,
       request_again names e.actor e.request (32 ∷ after) range.request both.0,
-      answer_again names e.request e.answer more range.answer both.1,
+      answer_again names e.actor e.request e.answer more range.answer both.0 both.1,
     ) refl
 
 regroup_fate : (name words more : List ℕ) → (codes "E " ++ (name ++ (32 ∷ words ++ codes "\n"))) ++ more ≡ codes "E " ++ (name ++ (codes " " ++ (words ++ 10 ∷ more)))

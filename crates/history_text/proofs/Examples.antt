@@ -20,7 +20,11 @@ turned : Joints
 turned = record { axis = pos 833 ∷ pos 0 ∷ pos 0 ∷ pos 0 ∷ pos 0 ∷ pos 0 ∷ pos 0 ∷ pos 0 ∷ pos 0 ∷ pos 0 ∷ pos 0 ∷ pos 0 ∷ [] }
 
 tasks : List TaskRow
-tasks = record { name = codes "A"; arm = None; axes = 0 } ∷ []
+tasks = record { name = codes "A"; arm = None; axes = 6 } ∷ []
+
+-- the same arm on a track
+longer : List TaskRow
+longer = record { name = codes "A"; arm = None; axes = 7 } ∷ []
 
 asked : Request → Answer → Event
 asked request answer = record { actor = 0; request = request; answer = answer }
@@ -28,6 +32,10 @@ asked request answer = record { actor = 0; request = request; answer = answer }
 setpoint : line_of tasks (asked (Setpoint turned) answers.Given) ≡ codes "S A 0.833 0.000 0.000 0.000 0.000 0.000\n"
 unfolding digits turned tasks asked
 setpoint = refl
+
+seventh : line_of longer (asked (Setpoint turned) answers.Given) ≡ codes "S A 0.833 0.000 0.000 0.000 0.000 0.000 0.000\n"
+unfolding digits turned longer asked
+seventh = refl
 
 text : line_of tasks (asked (Say (codes "ready") tails.None) answers.Ok) ≡ codes "T A ready\n"
 unfolding digits tasks asked

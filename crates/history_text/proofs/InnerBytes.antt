@@ -2,8 +2,9 @@
 use Rattle.std.proofs.Common.{◌≡◌, ℕ, suc, ◌^◌, ◌<◌, ◌≤◌, Bool, true, false, cond, List, [], ◌∷◌, ◌++◌, take, drop, Option, Some, None, ℤ, refl, arith, decimal}
 use Rattle.std.proofs.lemmas.Bool.{and_from, and_parts}
 use Rattle.std.proofs.lemmas.Bool.Decides.{nat_tests}
-use Rattle.std.specs.List.{AllByRecursion, flat_map}
+use Rattle.std.specs.List.{AllByRecursion, flat_map, position_or_len}
 use Rattle.std.specs.Prelude.{IsTrue, not, ◌||◌, ◌==◌}
+use Rattle.rapid_num.specs.Absent.{is_absent}
 use Rattle.rapid_num.specs.Characters.{is_printable}
 use Rattle.rapid_num.specs.NumText.{shortest_text}
 use Rattle.rapid_num.specs.Range.{IsNum}
@@ -31,14 +32,14 @@ use Rattle.rapid_model.specs.declared.watched.Watched.TheVariants as watched
 use Rattle.rapid_model.specs.declared.zone_name.ZoneName.{ZoneName}
 use Rattle.rapid_model.specs.declared.zone_name.ZoneName.TheVariants as zones
 use Rattle.value_text.specs.ValueText.{nums_text, part_text, quoted_byte, quoted_text, truth_text, value_text}
-use Rattle.history_text.specs.EventWords.{answer_words, axes_words, bit_words, bound_words, element_words, kind_words, nums_words, path_words, request_words, said_words, set_words, shape_words, side_words, single_words, two_words, watched_words, zone_name_words, zone_words}
+use Rattle.history_text.specs.EventWords.{answer_words, axes_words, bit_words, bound_words, element_words, given_axes, kind_words, nums_words, path_words, request_words, said_words, set_words, shape_words, side_words, single_words, two_words, watched_words, zone_name_words, zone_words}
 use Rattle.history_text.specs.InRange.{AreNums, IsAnswer, IsBound, IsFate, IsFault, IsRequest, IsShape, IsTail, IsText, IsValue, IsWatched, IsZoneName}
 use Rattle.history_text.specs.Lines.{fate_words, fault_words}
 use Rattle.history_text.specs.NextLine.{is_inner}
 use Rattle.history_text.specs.Reading.{ends_num}
 use Rattle.history_text.proofs.NameBytes.{IsName, IsNameByte}
 use Rattle.history_text.proofs.NumbersAgain.{shortest_goes_on}
-use Rattle.history_text.proofs.NumsAgain.{first_six, last_six}
+use Rattle.history_text.proofs.NumsAgain.{first_range, first_six, last_six}
 
 pub inner_both : (xs ys : List ℕ) → is_inner xs ≡ true → is_inner ys ≡ true → is_inner (xs ++ ys) ≡ true
 inner_both [] ys h k = k
@@ -109,7 +110,7 @@ inner_value (values.Target joints) fits =
 inner_value (values.Speed nums) fits = inner_brackets nums fits.range
 
 inner_place : (place : Joints) → AreNums 12 place.axis → is_inner (axes_words place) ≡ true
-inner_place place fits = inner_nums (take 6 place.axis) (first_six place.axis fits).range
+inner_place place fits = inner_nums (given_axes place) (first_range (position_or_len is_absent place.axis) place.axis fits.range)
 
 -- paths
 

@@ -27,11 +27,11 @@ use Rattle.value_text.specs.ValueText.{quoted_text, value_text}
 use Rattle.history_text.specs.EventWords.{bit_words, kind_words, path_words, request_words, said_words, set_words, shape_words, signal_words, single_words, two_words, watched_words, zone_words}
 use Rattle.history_text.specs.InRange.{IsFate, IsFault, IsRequest, IsShape, IsTail, IsU8, IsU16, IsU32, IsValue, IsWatched}
 use Rattle.history_text.specs.Lines.{fate_words, fault_words}
-use Rattle.history_text.specs.Named.{NamesData, has_part, has_pers, has_task, is_part, pers_sort, request_fits}
+use Rattle.history_text.specs.Named.{NamesData, axes_of, has_arm, has_part, has_pers, is_part, pers_sort, request_fits}
 use Rattle.history_text.specs.Reading.{after_word, ends_num, ends_whole, minus_at, next_num, num_at, number_at, size_at}
 use Rattle.history_text.specs.EventReading.{arrive_at, bit_at, connect_at, course_request_at, fate_at, fault_at, interrupt_request_at, kind_at, named_at, order_at, part_value_at, request_at, said_at, set_at, set_zone_at, signal_at, single_at, tail_at, tie_at, unhandled_at, watched_at, written_at, zone_at, zone_request_at}
 use Rattle.history_text.proofs.NumbersAgain.{next_again, whole_again}
-use Rattle.history_text.proofs.NumsAgain.{place_again}
+use Rattle.history_text.proofs.NumsAgain.{before_answer, place_again}
 use Rattle.history_text.proofs.PathsAgain.{path_again}
 use Rattle.history_text.proofs.QuotesAgain.{no_quote, quoted_again}
 use Rattle.history_text.proofs.ShapesAgain.{shape_again}
@@ -195,7 +195,9 @@ request_again names actor (requests.WriteP pers path value) more fits h =
 request_again names actor (requests.TestSet pers path) more fits h = rw (path_again pers path (62 ∷ more) fits.0 fits.1 (and_parts (has_pers names pers) (is_part path.part) h).1) refl
 request_again names actor (requests.ReadS signal) more fits h = rw (signal_again signal (32 ∷ 62 ∷ more) fits refl) refl
 request_again names actor (requests.WriteS signal value) more fits h = rw (set_again signal value (32 ∷ 62 ∷ more) fits) refl
-request_again names actor (requests.Setpoint to) more fits h = rw (place_again to (32 ∷ 62 ∷ more) fits (and_parts (has_task names actor) (is_position 6 to) h).1 refl) refl
+request_again names actor (requests.Setpoint to) more fits h =
+    let both = and_parts (has_arm names actor) (is_position (axes_of names actor) to) h in
+    rw (place_again (axes_of names actor) to (32 ∷ 62 ∷ more) fits both.0 both.1 refl (before_answer more)) refl
 request_again names actor (requests.Connect old trap) more fits h = connect_again old trap (62 ∷ more) fits.0 fits.1
 request_again names actor (requests.Order number on single) more fits h = order_again number on single more fits.0 fits.1
 request_again names actor (requests.Sleep number) more fits h = rw (whole_again (2 ^ 8) number (32 ∷ 62 ∷ more) fits (omega arith) refl) refl

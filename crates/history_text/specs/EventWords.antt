@@ -1,7 +1,8 @@
 -- The words of requests and answers in the line of an event, with one space between. Persistents are named P and their
 -- number, signals D and theirs. All other numbers are integers, and nums have no unnecessary digits.
-use Rattle.std.specs.Prelude.{ℕ, ℤ, Bool, true, false, List, [], ◌∷◌, ◌++◌, flat_map, take, Option, Some, None, codes, decimal, ◌==◌, if◌then◌else◌}
-use Rattle.rapid_limits.specs.declared.TheConstants.{ROBOT_AXES}
+use Rattle.std.specs.Prelude.{ℕ, ℤ, Bool, true, false, List, [], ◌∷◌, ◌++◌, flat_map, Option, Some, None, codes, decimal, ◌==◌, if◌then◌else◌}
+use Rattle.std.specs.List.{before_first}
+use Rattle.rapid_num.specs.Absent.{is_absent}
 use Rattle.rapid_num.specs.NumText.{shortest_text}
 use Rattle.rapid_num.specs.declared.joints.Joints.{Joints}
 use Rattle.rapid_num.specs.declared.shape.Bound.{Bound}
@@ -64,9 +65,12 @@ abbrev pub nums_words : List ℤ → List ℕ
 nums_words [] = []
 nums_words (z ∷ zs) = shortest_text z ++ flat_map (λ y. 32 ∷ shortest_text y) zs
 
--- axes 1 to 6 of a position of an arm
+-- the axes of a position: those before the first one that is not given
+abbrev pub given_axes : Joints → List ℤ
+given_axes place = before_first is_absent place.axis
+
 abbrev pub axes_words : Joints → List ℕ
-axes_words place = nums_words (take ROBOT_AXES place.axis)
+axes_words place = nums_words (given_axes place)
 
 -- the bounds of an axis, or - if it has none
 abbrev pub bound_words : Option Bound → List ℕ

@@ -30,8 +30,8 @@ abbrev pub history_lines : NamesData → List Event → List Fate → List (List
 history_lines names events fates = map (event_line names.tasks) events ++ fate_lines names.tasks fates
 
 -- Events that fit the names, and fates of the first tasks. No two such histories have the same lines: nums are read
--- back from their shortest form, a part that fits has a name, the type of a path determines how a value is read, and a
--- position of an arm has no external axes, which are not written.
+-- back from their shortest form, a part that fits has a name, the type of a path determines how a value is read, and the
+-- axes that are not written are those that the arm does not have.
 pub record IsHistory (names : NamesData) (history : List Event) (ends : List Fate) : Type 0 where
   pub events : AllByRecursion (λ e. IsEvent e × IsTrue (event_fits names e)) history
   pub fates : AllByRecursion IsFate ends

@@ -1,7 +1,7 @@
 -- The lines that are printed of a run. Each ends with 0A.
-use Rattle.std.specs.Prelude.{ℕ, ℤ, List, [], ◌∷◌, ◌++◌, map, Option, Some, None, codes, decimal, take, slice_get}
+use Rattle.std.specs.Prelude.{ℕ, ℤ, List, [], ◌∷◌, ◌++◌, map, Option, Some, None, codes, decimal, take, slice_get, unwrap_or}
 use Rattle.std.specs.List.{concat}
-use Rattle.rapid_limits.specs.declared.TheConstants.{ROBOT_AXES}
+use Rattle.std.specs.Option.{option_map}
 use Rattle.rapid_num.specs.NumText.{fixed_text, shortest_text}
 use Rattle.rapid_num.specs.declared.joints.Joints.{Joints}
 use Rattle.rapid_model.specs.CellData.{CellData}
@@ -32,9 +32,13 @@ task_name tasks actor = named (slice_get tasks actor)
     named (Some row) = row.name
     named None = []
 
--- a setpoint that was given: S, the task, and axes 1 to 6 in degrees
-abbrev pub setpoint_line : List ℕ → Joints → List ℕ
-setpoint_line name to = codes "S " ++ (name ++ (number_words (take ROBOT_AXES to.axis) ++ codes "\n"))
+-- the number of axes of a task's arm, 0 without an arm
+abbrev pub task_axes : List TaskRow → ℕ → ℕ
+task_axes tasks actor = unwrap_or (option_map (λ row. row.axes) (slice_get tasks actor)) 0
+
+-- a setpoint that was given: S, the task, and the axes of its arm, this many, in degrees
+abbrev pub setpoint_line : List ℕ → ℕ → Joints → List ℕ
+setpoint_line name axes to = codes "S " ++ (name ++ (number_words (take axes to.axis) ++ codes "\n"))
 
 -- the tail of a text to the operator: a num without unnecessary digits, or a truth value
 abbrev pub tail_words : Tail → List ℕ
@@ -46,14 +50,14 @@ tail_words (tails.Bool b) = truth_text b
 abbrev pub text_line : List ℕ → List ℕ → Tail → List ℕ
 text_line name text tail = codes "T " ++ (name ++ (32 ∷ text ++ (tail_words tail ++ codes "\n")))
 
--- the line of an event, or nothing
-abbrev pub line_between : List ℕ → Request → Answer → List ℕ
-line_between name (Setpoint to) answers.Given = setpoint_line name to
-line_between name (Say text tail) answers.Ok = text_line name text tail
-line_between name _ _ = []
+-- the line of an event of a task with this name and number of axes, or nothing
+abbrev pub line_between : List ℕ → ℕ → Request → Answer → List ℕ
+line_between name axes (Setpoint to) answers.Given = setpoint_line name axes to
+line_between name axes (Say text tail) answers.Ok = text_line name text tail
+line_between name axes _ _ = []
 
 abbrev pub line_of : List TaskRow → Event → List ℕ
-line_of tasks e = line_between (task_name tasks e.actor) e.request e.answer
+line_of tasks e = line_between (task_name tasks e.actor) (task_axes tasks e.actor) e.request e.answer
 
 abbrev pub fault_name : Fault → List ℕ
 fault_name faults.NumRange = codes "NumRange"

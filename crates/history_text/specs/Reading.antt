@@ -130,6 +130,16 @@ many_at one_at (suc more) text = do
   rest ← many_at one_at more first.1
   Some (first.0 ∷ rest.0, rest.1)
 
+-- what comes next, and as many as follow it
+abbrev pub with_next : {A : Type 0} → List ℕ → (List ℕ → List A × List ℕ) → Option (A × List ℕ) → List A × List ℕ
+with_next text go_on None = ([], text)
+with_next text go_on (Some x) = (x.0 ∷ (go_on x.1).0, (go_on x.1).1)
+
+-- as many things as come one after the other, at most this many
+unfoldable pub few_at : {A : Type 0} → (List ℕ → Option (A × List ℕ)) → ℕ → List ℕ → List A × List ℕ
+few_at one_at zero text = ([], text)
+few_at one_at (suc more) text = with_next text (few_at one_at more) (one_at text)
+
 -- a num, and this many more, each after a byte
 unfoldable pub nums_at : ℕ → ℕ → List ℕ → Option (List ℤ × List ℕ)
 nums_at byte more text = do

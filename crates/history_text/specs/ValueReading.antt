@@ -1,6 +1,6 @@
 -- Reading values, positions of an arm, shapes, and parts of persistents. These definitions are internal to proofs.
-use Rattle.std.specs.Prelude.{ℕ, ◌+◌, ◌-◌, ◌^◌, ℤ, Bool, true, false, ◌&&◌, nat_le, nat_lt, if◌then◌else◌, List, [], ◌∷◌, ◌++◌, codes, Option, Some, None}
-use Rattle.rapid_limits.specs.declared.TheConstants.{MOST_AXES, ROBOT_AXES}
+use Rattle.std.specs.Prelude.{ℕ, ◌+◌, ◌-◌, ◌^◌, ℤ, Bool, true, false, ◌&&◌, nat_le, nat_lt, if◌then◌else◌, List, [], ◌∷◌, ◌++◌, length, codes, Option, Some, None}
+use Rattle.rapid_limits.specs.declared.TheConstants.{MOST_AXES}
 use Rattle.rapid_num.specs.Reach.{absent_axes}
 use Rattle.rapid_num.specs.declared.joints.Joints.{Joints}
 use Rattle.rapid_num.specs.declared.shape.Bound.{Bound}
@@ -12,7 +12,7 @@ use Rattle.rapid_model.specs.declared.sort.Sort.{Sort}
 use Rattle.rapid_model.specs.declared.sort.Sort.TheVariants as sorts
 use Rattle.rapid_model.specs.declared.value.Value.{Value}
 use Rattle.rapid_model.specs.declared.value.Value.TheVariants as values
-use Rattle.history_text.specs.Reading.{◌>>=◌, after_word, many_at, nums_at, or_else, whole_at, num_at, truth_at, quoted_at}
+use Rattle.history_text.specs.Reading.{◌>>=◌, after_word, few_at, many_at, next_num, nums_at, or_else, whole_at, num_at, truth_at, quoted_at}
 
 -- nums in brackets: one, and this many more after commas
 unfoldable pub nums_in_brackets : ℕ → List ℕ → Option (List ℤ × List ℕ)
@@ -48,9 +48,15 @@ value_at sorts.JointTarget text = target_at text >>= (λ t. Some (values.Target 
 value_at sorts.SpeedData text = nums_in_brackets 3 text >>= (λ s. Some (values.Speed s.0, s.1))
 value_at _ text = None
 
--- a position of an arm, which has no external axes
+-- a position whose first axes are these; the others are not given
+abbrev pub place_of_axes : List ℤ → Joints
+place_of_axes axes = record { axis = axes ++ absent_axes (MOST_AXES - length axes) }
+
+-- a position of an arm, with as many axes as there are nums
 unfoldable pub place_at : List ℕ → Option (Joints × List ℕ)
-place_at text = nums_at 32 5 text >>= (λ s. Some (record { axis = s.0 ++ absent_axes (MOST_AXES - ROBOT_AXES) }, s.1))
+place_at text = do
+  first ← num_at text
+  Some (place_of_axes (first.0 ∷ (few_at (next_num 32) (MOST_AXES - 1) first.1).0), (few_at (next_num 32) (MOST_AXES - 1) first.1).1)
 
 -- one of six axes: the number of the first one, and the byte that names it
 unfoldable pub axis_at : ℕ → ℕ → List ℕ → Option (PartName × List ℕ)

@@ -1,7 +1,7 @@
 ghost use Rattle.std.specs.Prelude.{◌≡◌, ◌+◌, ◌≤◌, [], ◌++◌, length};
-ghost use Rattle.history_text.specs.Lines.{line_of, setpoint_line, text_line, task_name};
+ghost use Rattle.history_text.specs.Lines.{line_of, setpoint_line, task_axes, task_name, text_line};
 
-use crate::axes::push_axes;
+use crate::axes::{axes_of, push_axes};
 use crate::rooms::LINE_BYTES;
 use crate::texts::{push_tail, push_text};
 use arrayvec::ArrayString;
@@ -10,9 +10,9 @@ use rapid_model::{Answer, Event, Request, Tail, TaskRow, Text};
 use rapid_num::Joints;
 use value_text::push_name;
 
-/// Writes the event's line. A setpoint that was given: `S TASK` and the six axes in degrees with three decimals. A text
-/// to the operator: `T TASK`, a space, the text, and its tail right after it. The line stays empty for an event that
-/// has none. Takes no memory.
+/// Writes the event's line. A setpoint that was given: `S TASK` and each axis of its arm in degrees with three
+/// decimals. A text to the operator: `T TASK`, a space, the text, and its tail right after it. The line stays empty for
+/// an event that has none. Takes no memory.
 pub fn write_event(tasks: &[TaskRow], event: &Event, line: &mut ArrayString<LINE_BYTES>)
     requires { line.old.bytes ≡ [] }
     ensures { line.new.bytes ≡ line_of tasks.now event.now }
@@ -52,11 +52,11 @@ fn write_text(
 /// The line of a setpoint that was given.
 fn write_setpoint(tasks: &[TaskRow], actor: u32, to: &Joints, line: &mut ArrayString<LINE_BYTES>)
     requires { line.old.bytes ≡ [] }
-    ensures { line.new.bytes ≡ setpoint_line (task_name tasks.now actor) to.now }
+    ensures { line.new.bytes ≡ setpoint_line (task_name tasks.now actor) (task_axes tasks.now actor) to.now }
 {
     line.push_str("S ");
     push_task(tasks, actor, line);
-    push_axes(to, line);
+    push_axes(axes_of(tasks, actor), to, line);
     line.push('\n');
 }
 

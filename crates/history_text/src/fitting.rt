@@ -1,14 +1,17 @@
 //! Which events fit the names.
 
 ghost use Rattle.std.specs.Prelude.{◌≡◌};
+ghost use Rattle.rapid_num.specs.Reach.{is_position};
 ghost use Rattle.rapid_model.specs.Requests.{may_tell};
 ghost use Rattle.rapid_model.specs.Fits.{fits_pers, fits_request};
-ghost use Rattle.history_text.specs.Named.{answer_fits, event_fits, fitting_by, has_part, has_pers, has_signal, has_watched, is_part, pers_sort, request_fits, view_names, with_some_number};
+ghost use Rattle.history_text.specs.Named.{answer_fits, axes_of, event_fits, fitting_by, has_arm, has_part, has_pers, has_signal, has_watched, is_part, pers_sort, request_fits, view_names, with_some_number};
 
+use crate::axes::axes_of;
 use crate::names::Names;
 use crate::part_sorts::{part_sort, pers_sort};
-use rapid_limits::{MOST_AXES, ROBOT_AXES};
+use rapid_limits::MOST_AXES;
 use rapid_model::{Answer, Event, Fate, PartName, Request, Value, Watched, is_value_of};
+use rapid_num::Joints;
 use rapid_values::value_is_full;
 
 /// The actor exists, asks only about what the names have, and gets an answer of a form that its request has.
@@ -17,10 +20,11 @@ pub(crate) fn event_fits(names: &Names, event: &Event) -> bool
 {
     event.actor as usize <= names.tasks.len()
         && request_fits(names, event.actor, &event.request)
-        && answer_fits(names, &event.request, &event.answer)
+        && answer_fits(names, event.actor, &event.request, &event.answer)
 }
 
-/// What the request names exists, a value has the type of its path, and a position of an arm is one.
+/// What the request names exists, a value has the type of its path, and only an arm has positions, one for each of its
+/// axes.
 fn request_fits(names: &Names, actor: u32, request: &Request) -> bool
     ensures { result ≡ request_fits (view_names names.now) actor request.now }
 {
@@ -32,14 +36,27 @@ fn request_fits(names: &Names, actor: u32, request: &Request) -> bool
         Request::TestSet { pers, path } => has_part(names, *pers, path.part),
         Request::ReadS { signal } => has_signal(names, *signal),
         Request::WriteS { signal, .. } => has_signal(names, *signal),
-        Request::Position => (actor as usize) < names.tasks.len(),
-        Request::Setpoint { to } => (actor as usize) < names.tasks.len()
-            && to.is_position(ROBOT_AXES),
+        Request::Position => has_arm(names, actor),
+        Request::Setpoint { to } => { has_arm(names, actor) && is_position(names, actor, to) }
         Request::Order { on, .. } => has_watched(names, *on),
         Request::ZoneTie { signal, .. } => has_signal(names, *signal),
         Request::End { fate } => may_tell(*fate),
         _ => true,
     }
+}
+
+/// Only tasks have arms.
+fn has_arm(names: &Names, actor: u32) -> bool
+    ensures { result ≡ has_arm (view_names names.now) actor }
+{
+    axes_of(names.tasks, actor) > 0
+}
+
+/// Whether the joints are a position of the actor's arm.
+fn is_position(names: &Names, actor: u32, joints: &Joints) -> bool
+    ensures { result ≡ is_position (axes_of (view_names names.now) actor) joints.now }
+{
+    joints.is_position(usize::from(axes_of(names.tasks, actor)))
 }
 
 fn has_signal(names: &Names, signal: u32) -> bool
@@ -108,8 +125,8 @@ fn fits_pers(names: &Names, pers: u32, part: PartName, value: &Value) -> bool
 }
 
 /// Whether the answer is of a form that the request has.
-fn answer_fits(names: &Names, request: &Request, answer: &Answer) -> bool
-    ensures { result ≡ answer_fits (view_names names.now) request.now answer.now }
+fn answer_fits(names: &Names, actor: u32, request: &Request, answer: &Answer) -> bool
+    ensures { result ≡ answer_fits (view_names names.now) actor request.now answer.now }
 {
     match request {
         Request::Look => matches!(
@@ -125,7 +142,7 @@ fn answer_fits(names: &Names, request: &Request, answer: &Answer) -> bool
         Request::ReadS { .. } => matches!(answer, Answer::Bit(_)),
         Request::WriteS { .. } => matches!(answer, Answer::Ok | Answer::Tied),
         Request::Position => match answer {
-            Answer::At(place) => place.is_position(ROBOT_AXES),
+            Answer::At(place) => is_position(names, actor, place),
             _ => false,
         },
         Request::Setpoint { .. } => matches!(answer, Answer::Given | Answer::Stopped(_)),

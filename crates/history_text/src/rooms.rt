@@ -1,6 +1,6 @@
 //! The most bytes that each part of a line takes.
 
-use rapid_limits::{MOST_AXES, ROBOT_AXES};
+use rapid_limits::MOST_AXES;
 use value_text::{COUNT_BYTES, NUM_BYTES, VALUE_BYTES, WORD_BYTES};
 
 /// The word before a number, with its space.
@@ -42,8 +42,8 @@ pub(crate) const TAIL_BYTES: usize = 1 + NUM_BYTES;
 /// A Say.
 pub(crate) const SAID_BYTES: usize = 4 + VALUE_BYTES + TAIL_BYTES;
 
-/// The axes of a robot, each after a space.
-pub(crate) const AXES_BYTES: usize = ROBOT_AXES * (1 + NUM_BYTES);
+/// The axes of an arm, each after a space.
+pub(crate) const AXES_BYTES: usize = MOST_AXES * (1 + NUM_BYTES);
 
 /// A space and the bounds of an axis.
 pub(crate) const BOUND_BYTES: usize = 2 * (1 + NUM_BYTES);

@@ -1,13 +1,15 @@
 //! Reading values and positions of an arm.
 
-ghost use Rattle.std.specs.Prelude.{◌≡◌};
+ghost use Rattle.std.specs.Prelude.{◌≡◌, ◌-◌, ◌∷◌};
 ghost use Rattle.std.specs.Option.{option_map};
+ghost use Rattle.rapid_num.specs.Reach.{absent_axes};
 ghost use Rattle.history_text.specs.Reading.{four_nums, six_nums};
 ghost use Rattle.history_text.specs.ValueReading.{nums_in_brackets, place_at, target_at, text_value, value_at};
 
-use crate::numbers::{Four, Six, four_at, num_at, six_at};
+use crate::numbers::{Four, Six, four_at, next_num, num_at, six_at};
 use crate::quotes::quoted_at;
 use crate::words::{after_word, truth_at};
+use rapid_limits::MOST_AXES;
 use rapid_model::{Sort, Value};
 use rapid_num::{Joints, Num};
 
@@ -111,17 +113,31 @@ fn target_at(text: &[u8]) -> Option<(Joints, &[u8])>
     Some((Joints { axis }, rest))
 }
 
-/// A position of an arm, which has no external axes.
+/// A position of an arm, with as many axes as there are nums.
 #[tactic(auto, unfolding(crate::specs::ValueReading::place_at))]
 pub(crate) fn place_at(text: &[u8]) -> Option<(Joints, &[u8])>
     ensures { option_map (λ x. (x.0, x.1.now)) result ≡ place_at text.now }
 {
-    let absent = Num::new(9_000_000_000_000)?;
-    let Some(((a, b, c, d, e, f), rest)) = six_at(b' ', text) else {
+    let Some(first) = num_at(text) else {
         return None;
     };
-    let axis = [
-        a, b, c, d, e, f, absent, absent, absent, absent, absent, absent,
-    ];
+    let mut axis = first_axis(first.0);
+    let mut rest = first.1;
+    for place in 1..MOST_AXES {
+        let Some(next) = next_num(b' ', rest) else {
+            return Some((Joints { axis }, rest));
+        };
+        axis[place] = next.0;
+        rest = next.1;
+    }
     Some((Joints { axis }, rest))
+}
+
+/// The first axis, and eleven that are not given.
+fn first_axis(first: Num) -> [Num; MOST_AXES]
+    ensures { result ≡ first ∷ absent_axes (MOST_AXES - 1) }
+{
+    let mut axis = [Num::new(9_000_000_000_000).unwrap(); MOST_AXES];
+    axis[0] = first;
+    axis
 }

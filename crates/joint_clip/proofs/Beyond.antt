@@ -1,12 +1,11 @@
 -- An axis goes past a bound exactly if it is past it at one of the ends.
-use Rattle.std.proofs.Common.{◌≡◌, ◌≤◌, ◌<◌, ℕ, Bool, true, false, IsTrue, List, length, Option, Some, inl, inr, subst, refl, arith, ℤ, pos, ◌≤ℤ◌}
-use Rattle.std.specs.List.{slice_index_or}
+use Rattle.std.proofs.Common.{◌≡◌, ◌≤◌, ◌<◌, ℕ, Bool, true, false, IsTrue, List, length, Option, Some, inl, inr, subst, refl, arith, ℤ, ◌≤ℤ◌}
 use Rattle.std.proofs.lemmas.Int.{ints, by_lt_z}
 use Rattle.std.proofs.lemmas.Bool.{false≢true}
 use Rattle.std.proofs.lemmas.Option.{slice_get_within}
 use Rattle.rapid_num.specs.declared.joints.Joints.{Joints}
 use Rattle.rapid_num.specs.declared.shape.Bound.{Bound}
-use Rattle.joint_clip.specs.Touches.{Names, IsBeyond, LiesOutside, SomeFraction, way_at, point_at}
+use Rattle.joint_clip.specs.Touches.{IsBeyond, LiesOutside, SomeFraction, way_at, point_at}
 use Rattle.joint_clip.proofs.NamedAxes.{NoneOf}
 use Rattle.joint_clip.proofs.Ways.{way_at-least, way_at-most}
 
@@ -14,7 +13,7 @@ use Rattle.joint_clip.proofs.Ways.{way_at-least, way_at-most}
 abbrev pub PassesBeyond : Bound → ℤ → ℤ → Type 0
 PassesBeyond bound p q = SomeFraction (λ k m. IsBeyond bound (way_at p q k m) m)
 
-at_start : (p q : ℤ) → p ≡ way_at p q 0 1
+pub at_start : (p q : ℤ) → p ≡ way_at p q 0 1
 at_start p q = omega (arith, ints)
 
 at_end : (p q : ℤ) → q ≡ way_at p q 1 1
@@ -34,7 +33,7 @@ not_below bound p not = by_lt_z p bound.low (λ below. absurd (not (inl (omega (
 not_above : (bound : Bound) (p : ℤ) → ¬ IsBeyond bound p 1 → p ≤ℤ bound.high
 not_above bound p not = by_lt_z bound.high p (λ above. absurd (not (inr (omega (arith, ints))))) (λ below. below)
 
-never_beyond : (bound : Bound) (p q : ℤ) (k m : ℕ) → k ≤ m → ¬ IsBeyond bound p 1 → ¬ IsBeyond bound q 1 → IsBeyond bound (way_at p q k m) m → ⊥
+pub never_beyond : (bound : Bound) (p q : ℤ) (k m : ℕ) → k ≤ m → ¬ IsBeyond bound p 1 → ¬ IsBeyond bound q 1 → IsBeyond bound (way_at p q k m) m → ⊥
 never_beyond bound p q k m way from to beyond =
     elim beyond [
       | inl below ↦ absurd (omega (arith, ints, below, way_at-least p q bound.low k m way (not_below bound p from) (not_below bound q to)))

@@ -7,6 +7,7 @@ use Rattle.rapid_num.specs.declared.joints.Joints.{Joints}
 use Rattle.rapid_num.specs.declared.shape.Bound.{Bound}
 use Rattle.rapid_num.specs.declared.shape.Shape.{Shape}
 use Rattle.joint_clip.specs.declared.shape_fault.ShapeFault.TheVariants as faults
+use Rattle.joint_clip.specs.Lying.{lies_in}
 use Rattle.joint_clip.specs.Shapes.{made_shape}
 use Rattle.joint_clip.specs.Touches.{Names, IsWithin, LiesInside, LiesOutside, IsBeyond, Touches, way_at}
 use Rattle.joint_clip.proofs.Axes.{none_named}
@@ -165,3 +166,20 @@ leaves = record {
   on_the_way = omega arith;
   holds = record { axis = 0; bound = bound (pos 10_000) (pos 20_000); named = refl; beyond = inr (omega (arith, ints)) };
 }
+
+-- an arm on a face lies in an Inside zone and not in an Outside one, and a thousandth further the other way round
+on_the_face : lies_in (zone true (pos 10_000) (pos 20_000)) (arm_at (pos 20_000) (pos 0)) ≡ true
+on_the_face = refl
+
+past_the_face : lies_in (zone true (pos 10_000) (pos 20_000)) (arm_at (pos 20_001) (pos 0)) ≡ false
+past_the_face = refl
+
+on_the_face_of_an_outside : lies_in (zone false (pos 10_000) (pos 20_000)) (arm_at (pos 20_000) (pos 0)) ≡ false
+on_the_face_of_an_outside = refl
+
+past_the_face_of_an_outside : lies_in (zone false (pos 10_000) (pos 20_000)) (arm_at (pos 20_001) (pos 0)) ≡ true
+past_the_face_of_an_outside = refl
+
+-- one axis is enough to be out of the square
+half_in : lies_in square (arm_at (pos 15_000) (pos 9_999)) ≡ false
+half_in = refl

@@ -7,4 +7,5 @@ pub mod NamedAxes
 pub mod Beyond
 pub mod PassingBy
 pub mod Bounds
+pub mod Staying
 mod Examples

@@ -21,7 +21,7 @@ stays_above p q high k m some way from to =
     let least = way_at-least p q (high -ℤ negsuc 0) k m way (omega (arith, ints)) (omega (arith, ints)) in
     omega (arith, ints, least, times-sub high (negsuc 0) m)
 
-never_within : (bound : Bound) (p q : ℤ) (k m : ℕ) → 1 ≤ m → k ≤ m → IsBeside bound p q → ¬ IsWithin bound (way_at p q k m) m
+pub never_within : (bound : Bound) (p q : ℤ) (k m : ℕ) → 1 ≤ m → k ≤ m → IsBeside bound p q → ¬ IsWithin bound (way_at p q k m) m
 never_within bound p q k m some way beside within =
     elim beside [
       | inl below ↦ absurd (omega (arith, ints, within.low, stays_below p q bound.low k m some way below.0 below.1))

@@ -1,4 +1,5 @@
 pub mod Touches
+pub mod Lying
 pub mod Beside
 pub mod Shapes
 pub mod Sides

@@ -7,8 +7,10 @@ use Rattle.stack_code.specs.declared.first_run.FirstRun.{FirstRun}
 use Rattle.machine_stacks.specs.FrameStack.{frames_in, index_in}
 use Rattle.machine_stacks.specs.OperandStack.{stacked}
 use Rattle.machine_stacks.specs.Starts.{frame_from, index_of, values_from}
+use Rattle.machine_stacks.specs.Words.{data_in}
 use Rattle.machine_stacks.specs.declared.mark.Mark.{Mark}
 use Rattle.machine_stacks.specs.declared.run_start.RunStart.{RunStart}
+use Rattle.machine_stacks.specs.declared.word.Word.TheVariants as words
 
 abbrev m : ℕ → Datum
 m number = datums.Mark number
@@ -66,3 +68,8 @@ begun = refl
 
 only_so_many : values_from firsts start 7 ≡ m 2 ∷ m 2 ∷ []
 only_so_many = refl
+
+-- four data in words, two of them apart: at the same index, and past the end of what lies apart
+
+in_a_row : data_in (words.Mark 1 ∷ words.Apart ∷ words.Mark 3 ∷ words.Apart ∷ []) (m 7 ∷ m 8 ∷ []) ≡ m 1 ∷ m 8 ∷ m 3 ∷ m 0 ∷ []
+in_a_row = refl

@@ -6,6 +6,7 @@ use Rattle.std.proofs.lemmas.List.{length-take-le, length-drop, length-reverse, 
 use Rattle.std.proofs.lemmas.Option.{slice_get_past}
 use Rattle.std.proofs.lemmas.Grind.{reverse_onto}
 use Rattle.std.proofs.Math.Seq.{take-set-lt, get_or-append_seam}
+use Rattle.std.specs.Prelude.{is_some}
 use Rattle.std.specs.Option.{option_and_then, option_map_or}
 use Rattle.typed_trees.specs.declared.datum.Datum.{Datum}
 use Rattle.rapid_meaning.specs.Data.{Frame, frame_at, put_in_frame, with_datum, with_frame}
@@ -90,6 +91,17 @@ read values (mark ∷ marks) frame at h =
     (below ∙ read_below base values (index_in base marks frame at) (index_within base marks frame at h.1)))
 
 -- writing
+
+-- a value is read wherever there is an index
+
+some_there : (xs : List Datum) (p : ℕ) → p < length xs → true ≡ is_some (slice_get xs p)
+some_there [] p h = absurd (omega (arith, h))
+some_there (x ∷ xs) zero h = refl
+some_there (x ∷ xs) (suc p) h = some_there xs p (omega (arith, h))
+
+pub is_read : (values : List Datum) (o : Option ℕ) → ((p : ℕ) → o ≡ Some p → p < length values) → is_some o ≡ is_some (option_and_then (slice_get values) o)
+is_read values None within = refl
+is_read values (Some p) within = some_there values p (within p refl)
 
 pub length-written : (o : Option ℕ) (new : Datum) (values : List Datum) → length (written o new values) ≡ length values
 length-written None new values = refl

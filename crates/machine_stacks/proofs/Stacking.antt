@@ -1,11 +1,13 @@
 -- Operands of routines that lie one after the other.
-use Rattle.std.proofs.Common.{◌≡◌, ◌≢◌, ℕ, suc, ◌+◌, ◌-◌, ◌<◌, ◌≤◌, List, [], ◌∷◌, ◌++◌, length, reverse, take, drop, sum_by, slice_set, refl, sym, ap, ◌∙◌, arith}
-use Rattle.std.proofs.lemmas.List.{drop_all, set_split, take-set-le, take-append-drop, drop-append-le, take-append-le, length-take-le, length-drop, length-reverse, reverse-append, reverse-reverse}
+use Rattle.std.proofs.Common.{◌≡◌, ◌≢◌, ℕ, suc, ◌+◌, ◌-◌, ◌<◌, ◌≤◌, List, [], ◌∷◌, ◌++◌, length, reverse, take, drop, sum_by, slice_get, slice_set, Some, refl, sym, ap, ◌∙◌, arith}
+use Rattle.std.proofs.lemmas.List.{drop_all, drop_more, set_split, take-set-le, take-append-drop, drop-append-le, take-append-le, length-take-le, length-drop, length-reverse, reverse-append, reverse-reverse}
 use Rattle.std.proofs.lemmas.List.Sums.{sum_by-cons}
+use Rattle.std.proofs.lemmas.Option.{get_or_from_slice_get}
 use Rattle.std.proofs.Math.Seq.{take-append_seam, drop-append_seam}
 use Rattle.typed_trees.specs.declared.datum.Datum.{Datum}
 use Rattle.machine_stacks.specs.Cuts.{IsCut}
 use Rattle.machine_stacks.specs.OperandStack.{OperandStack, stacked}
+use Rattle.machine_stacks.specs.Words.{DataRow}
 
 -- all together are as many as stand in the list
 pub total-stacked : (items : List Datum) (bases : List ℕ) → IsCut (length items) bases → sum_by length (stacked items bases) ≡ length items
@@ -64,6 +66,10 @@ moved_away items base at count h k = sym (ap reverse (top_taken items base at co
 abbrev pub stack_of : List Datum → List (List Datum) → ℕ → ℕ → OperandStack
 stack_of top below room depth = record { top = top; below = below; room = room; depth = depth }
 
+-- the operands in a row of data
+abbrev pub stack_in : DataRow → ℕ → List ℕ → ℕ → OperandStack
+stack_in row base bases depth = stack_of (reverse (drop base row.items)) (stacked (take base row.items) bases) row.room depth
+
 pub same_stack : (a b : List Datum) (x y : List (List Datum)) (m n depth : ℕ) → a ≡ b → x ≡ y → m ≡ n → stack_of a x m depth ≡ stack_of b y n depth
 same_stack a b x y m n depth top below room =
     ap (λ t. stack_of t x m depth) top ∙ ap (λ u. stack_of b u m depth) below ∙ ap (λ r. stack_of b y r depth) room
@@ -99,3 +105,20 @@ stack_set items bases base at room depth x some is =
     ∙ reverse-append (drop base (take at items)) (x ∷ [])
     ∙ ap (λ xs. x ∷ xs) (sym (top_left items base at 1 (omega arith) last)) in
     same_stack _ _ _ _ _ _ _ top (ap (λ xs. stacked xs bases) (take-set-le base items at x (omega arith))) refl
+
+-- an operand taken off the top
+pub stack_popped : (items : List Datum) (bases : List ℕ) (base at room depth : ℕ) (x : Datum) → reverse (drop base items) ≢ [] → at ≡ length items - 1 → slice_get items at ≡ Some x
+    → stack_of (reverse (drop base items)) (stacked (take base items) bases) room depth ≡ stack_of (x ∷ reverse (drop base (take at items))) (stacked (take base (take at items)) bases) room depth
+stack_popped items bases base at room depth x some is there =
+    let within = top_within items base some in
+    let last : at + 1 ≡ length items = omega (arith, is, within) in
+    let len : length (take at items) ≡ at = length-take-le at items (omega arith) in
+    let below : base ≤ length (take at items) = omega arith in
+    let first : drop at items ≡ x ∷ [] =
+    drop_more items at x (omega arith) ∙ ap (λ (y : Datum). y ∷ drop (at + 1) items) (get_or_from_slice_get items at x x there) ∙ ap (λ (xs : List Datum). x ∷ xs) (drop_all (at + 1) items (omega arith)) in
+    let split : items ≡ take at items ++ x ∷ [] = sym (take-append-drop at items) ∙ ap (λ xs. take at items ++ xs) first in
+    let top : reverse (drop base items) ≡ x ∷ reverse (drop base (take at items)) =
+    ap (λ xs. reverse (drop base xs)) split
+    ∙ ap reverse (drop-append-le base (take at items) (x ∷ []) below)
+    ∙ reverse-append (drop base (take at items)) (x ∷ []) in
+    same_stack _ _ _ _ _ _ _ top (ap (λ xs. stacked xs bases) (sym (below_kept items base at (omega arith) (omega arith)))) refl

@@ -4,3 +4,4 @@ pub mod FrameStack
 pub mod Kept
 pub mod OperandStack
 pub mod Starts
+pub mod Words

@@ -1,26 +1,30 @@
-ghost use Rattle.std.specs.Prelude.{◌≡◌, ◌+◌, ◌<◌, ◌≤◌, [], ◌∷◌, length, reverse, take, drop, slice_get, IfOk};
-ghost use Rattle.std.specs.Option.{option_and_then, option_copied};
+ghost use Rattle.std.specs.Prelude.{◌≡◌, ◌+◌, ◌<◌, ◌≤◌, [], ◌∷◌, is_some, length, reverse, take, drop, slice_get, IfOk};
+ghost use Rattle.std.specs.Option.{option_and_then};
 ghost use Rattle.rapid_model.specs.declared.value.Value.TheVariants as values;
 ghost use Rattle.typed_trees.specs.declared.datum.Datum.TheVariants.{Plain};
 ghost use Rattle.rapid_meaning.specs.Data.{below_first, frame_at, put_in_frame, seen_in, values_in, with_seen};
+ghost use Rattle.rapid_meaning.specs.Places.{place_in};
+ghost use Rattle.machine_stacks.specs.Forms.{as_num};
 ghost use Rattle.machine_stacks.specs.Starts.{frame_from};
 
 use crate::first_values::append_firsts;
 use crate::held::Held;
-use crate::indexes::{index_at, value_at, write_at, write_num_at};
+use crate::indexes::{datum_at, index_at, num_at, place_at, write_at, write_num_at};
 use crate::mark::Mark;
 use crate::operands::Operands;
 use crate::run_start::RunStart;
+use crate::words::Words;
 use rapid_num::Num;
 use stack_code::FirstRun;
 use std::alloc::{AllocError, Global};
 use std::marker::Model;
+use typed_trees::Lvalue;
 
 /// The data of a task's active routines. Contracts see their frames, the innermost first, and the room for values in
 /// all and for frames.
 #[derive(Debug, Drop)]
 pub struct Frames {
-    values: Vec<Held>,
+    values: Words,
     marks: Vec<Mark>,
 }
 
@@ -32,7 +36,7 @@ impl Model for Frames {
 
     ghost Value = { FrameStack };
 
-    ghost view = { λ f. record { frames = frames_in f.values.items (reverse f.marks.items); room = vec_capacity f.values; depth = vec_capacity f.marks } };
+    ghost view = { λ f. record { frames = frames_in f.values.items (reverse f.marks.items); room = f.values.room; depth = vec_capacity f.marks } };
 
     // The values of each frame begin where those of the frame below it end.
     ghost invariant = { λ f. IsCut (length f.values.items) (bases_of (reverse f.marks.items)) };
@@ -43,7 +47,7 @@ impl Frames {
     pub fn new(alloc: Global, room: usize, depth: usize) -> Result<Frames, AllocError>
         ensures { IfOk result (λ f. f ≡ record { frames = []; room = room; depth = depth }) }
     {
-        let values = Vec::with_capacity(alloc, room)?;
+        let values = Words::new(alloc, room)?;
         let marks = Vec::with_capacity(alloc, depth)?;
         Ok(Frames { values, marks })
     }
@@ -113,12 +117,37 @@ impl Frames {
         }
     }
 
-    /// A value of a frame, by the number of frames below it and its index in the frame; none if there is none.
-    pub fn get(&self, frame: usize, at: usize) -> Option<&Held>
-        ensures { option_copied result ≡ option_and_then (λ f. slice_get f.values at) (frame_at self.now.frames frame) }
+    /// Whether a frame has a value, by the number of frames below it and its index in the frame.
+    pub fn has(&self, frame: usize, at: usize) -> bool
+        ensures { result ≡ is_some (option_and_then (λ f. slice_get f.values at) (frame_at self.now.frames frame)) }
+    {
+        index_at(self.values.len(), &self.marks, frame, at).is_some()
+    }
+
+    /// A value of a frame, by the number of frames below it and its index in the frame; none if there is none. Does not
+    /// allocate.
+    pub fn get(&self, frame: usize, at: usize) -> Option<Held>
+        ensures { result ≡ option_and_then (λ f. slice_get f.values at) (frame_at self.now.frames frame) }
     {
         let index = index_at(self.values.len(), &self.marks, frame, at);
-        value_at(&self.values, index)
+        datum_at(&self.values, index)
+    }
+
+    /// The num of a frame, by the number of frames below it and its index in the frame; none if there is none.
+    pub fn num(&self, frame: usize, at: usize) -> Option<Num>
+        ensures { result ≡ option_and_then as_num (option_and_then (λ f. slice_get f.values at) (frame_at self.now.frames frame)) }
+    {
+        let index = index_at(self.values.len(), &self.marks, frame, at);
+        num_at(&self.values, index)
+    }
+
+    /// What a value of a frame stands for, by the number of frames below it and its index in the frame; none if it is
+    /// not there or stands for nothing.
+    pub fn place(&self, frame: usize, at: usize) -> Option<Lvalue>
+        ensures { result ≡ option_and_then place_in (option_and_then (λ f. slice_get f.values at) (frame_at self.now.frames frame)) }
+    {
+        let index = index_at(self.values.len(), &self.marks, frame, at);
+        place_at(&self.values, index)
     }
 
     /// Replaces a value of a frame, by the number of frames below it and its index in the frame. Changes nothing if
@@ -131,7 +160,7 @@ impl Frames {
     }
 
     /// Replaces a value of a frame by a num, by the number of frames below it and its index in the frame. Changes
-    /// nothing if there is none; over a num it writes only the num.
+    /// nothing if there is none.
     pub fn put_num(&mut self, frame: usize, at: usize, number: Num)
         ensures { self.new ≡ record self.old { frames = put_in_frame self.old.frames frame at (Plain (values.Num number)) (frame_at self.old.frames frame) } }
     {

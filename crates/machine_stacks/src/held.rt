@@ -1,10 +1,12 @@
-ghost use Rattle.std.specs.Prelude.{◌≡◌};
+ghost use Rattle.std.specs.Prelude.{◌≡◌, Some, IfSome};
 ghost use Rattle.std.specs.Option.{option_copied};
 ghost use Rattle.rapid_meaning.specs.Places.{place_in};
 ghost use Rattle.rapid_model.specs.declared.value.Value.TheVariants as values;
 ghost use Rattle.typed_trees.specs.declared.datum.Datum.TheVariants as datums;
-ghost use Rattle.machine_stacks.specs.Forms.{as_mark, as_num, as_shape, as_value};
+ghost use Rattle.machine_stacks.specs.Forms.{as_bool, as_mark, as_num, as_shape, as_value};
+ghost use Rattle.machine_stacks.specs.Words.{in_word};
 
+use crate::word::Word;
 use rapid_model::Value;
 use rapid_num::{Num, Shape};
 use std::marker::Model;
@@ -138,13 +140,26 @@ impl Held {
         }
     }
 
-    /// Makes the datum this value. If both are nums it writes only the num.
-    pub fn set_value(&mut self, value: Value)
-        ensures { self.new ≡ datums.Plain value }
+    /// The bool; none if it is no bool.
+    pub fn truth(&self) -> Option<bool>
+        ensures { result ≡ as_bool self.now }
     {
-        match value {
-            Value::Num(number) => self.set_num(number),
-            other => self.kept = Kept::Plain(other),
+        match &self.kept {
+            Kept::Plain(Value::Bool(truth)) => Some(*truth),
+            _ => None,
+        }
+    }
+
+    /// The datum in one word; none if it takes more than that.
+    pub(crate) fn word(&self) -> Option<Word>
+        ensures { IfSome result (λ word. in_word word ≡ Some self.now) }
+    {
+        match &self.kept {
+            Kept::Plain(Value::Num(number)) => Some(Word::Num(*number)),
+            Kept::Plain(Value::Bool(truth)) => Some(Word::Bool(*truth)),
+            Kept::Mark(number) => Some(Word::Mark(*number)),
+            Kept::Place(place) => Some(Word::of_place(*place)),
+            _ => None,
         }
     }
 

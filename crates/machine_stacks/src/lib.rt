@@ -2,6 +2,7 @@
 //! allocated when the machine is made.
 #![tactic(auto)]
 
+mod apart;
 mod first_values;
 mod frames;
 mod held;
@@ -12,6 +13,8 @@ mod operands;
 mod run_start;
 mod slots;
 mod starts;
+mod word;
+mod words;
 
 pub use frames::Frames;
 pub use held::Held;

@@ -1,22 +1,18 @@
-ghost use Rattle.std.specs.Prelude.{◌≡◌, ◌+◌, ◌-◌, ◌≤◌, ◌++◌, take, drop, vec_len};
-ghost use Rattle.std.specs.Vec.{vec_capacity};
+ghost use Rattle.std.specs.Prelude.{◌≡◌, ◌+◌, ◌-◌, ◌≤◌, ◌++◌, length, take, drop};
 
-use crate::held::Held;
-use std::mem;
+use crate::words::Words;
 
-/// Moves the rest of a list, from an index on, to the end of another list, in order. Does not allocate.
-pub fn move_tail(from: &mut Vec<Held>, at: usize, to: &mut Vec<Held>)
-    requires within { at ≤ vec_len from.old }
-    requires room { vec_len to.old + (vec_len from.old - at) ≤ vec_capacity to.old }
+/// Moves the rest of a row, from an index on, to the end of another row, in order. Does not allocate.
+pub(crate) fn move_tail(from: &mut Words, at: usize, to: &mut Words)
+    requires within { at ≤ length from.old.items }
+    requires room { length to.old.items + (length from.old.items - at) ≤ to.old.room }
     ensures moved { to.new.items ≡ to.old.items ++ drop at from.old.items }
     ensures rest { from.new.items ≡ take at from.old.items }
-    ensures to_capacity { vec_capacity to.new ≡ vec_capacity to.old }
-    ensures from_capacity { vec_capacity from.new ≡ vec_capacity from.old }
+    ensures to_room { to.new.room ≡ to.old.room }
+    ensures from_room { from.new.room ≡ from.old.room }
 {
     for index in at..from.len() {
-        let empty = Held::of_mark(0);
-        let datum = mem::replace(&mut from[index], empty);
-        to.push_reserved(datum);
+        to.push_from(from, index);
     }
     from.truncate(at);
 }

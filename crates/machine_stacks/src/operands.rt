@@ -1,22 +1,25 @@
-ghost use Rattle.std.specs.Prelude.{◌≡◌, ◌≢◌, ◌+◌, ◌<◌, ◌≤◌, ◌++◌, [], ◌∷◌, length, reverse, take, drop, slice_get, IfOk, vec_len};
-ghost use Rattle.std.specs.Option.{option_copied};
-ghost use Rattle.std.specs.Vec.{vec_capacity};
+ghost use Rattle.std.specs.Prelude.{◌≡◌, ◌≢◌, ◌+◌, ◌<◌, ◌≤◌, ◌++◌, [], ◌∷◌, length, reverse, take, drop, slice_get, IfOk};
+ghost use Rattle.std.specs.Option.{option_and_then};
 ghost use Rattle.rapid_model.specs.declared.value.Value.TheVariants as values;
-ghost use Rattle.typed_trees.specs.declared.datum.Datum.TheVariants.{Plain};
+ghost use Rattle.typed_trees.specs.declared.datum.Datum.TheVariants.{Place, Plain};
+ghost use Rattle.rapid_meaning.specs.Places.{place_in};
+ghost use Rattle.machine_stacks.specs.Forms.{as_bool, as_num};
 ghost use Rattle.machine_stacks.specs.OperandStack.{OperandStack, operands_in};
 
 use crate::held::Held;
 use crate::moving::move_tail;
+use crate::words::Words;
 use rapid_model::Value;
 use rapid_num::Num;
 use std::alloc::{AllocError, Global};
 use std::marker::Model;
+use typed_trees::Lvalue;
 
 /// The operands of a task: those of the running routine on top, those of the routines that wait for it below. Contracts
 /// see the operands of each routine, the one pushed last first, and the room for operands and for waiting routines.
 #[derive(Debug, Drop)]
 pub struct Operands {
-    items: Vec<Held>,
+    items: Words,
     base: usize,
     bases: Vec<usize>,
 }
@@ -29,7 +32,7 @@ impl Model for Operands {
 
     ghost Value = { OperandStack };
 
-    ghost view = { λ s. record { top = reverse (drop s.base s.items.items); below = stacked (take s.base s.items.items) (reverse s.bases.items); room = vec_capacity s.items; depth = vec_capacity s.bases } };
+    ghost view = { λ s. record { top = reverse (drop s.base s.items.items); below = stacked (take s.base s.items.items) (reverse s.bases.items); room = s.items.room; depth = vec_capacity s.bases } };
 
     // The operands of each routine begin where those of the routine below it end.
     ghost invariant = { λ s. IsCut (length s.items.items) (s.base ∷ reverse s.bases.items) };
@@ -41,7 +44,7 @@ impl Operands {
     pub fn new(alloc: Global, room: usize, depth: usize) -> Result<Operands, AllocError>
         ensures { IfOk result (λ s. s ≡ record { top = []; below = []; room = room; depth = depth }) }
     {
-        let items = Vec::with_capacity(alloc, room)?;
+        let items = Words::new(alloc, room)?;
         let bases = Vec::with_capacity(alloc, depth)?;
         Ok(Operands {
             items,
@@ -57,12 +60,47 @@ impl Operands {
         self.items.len() - self.base
     }
 
-    /// An operand of the running routine, by the number of those above it; none if there are not that many.
-    pub fn peek(&self, above: usize) -> Option<&Held>
-        ensures { option_copied result ≡ slice_get self.now.top above }
+    /// An operand of the running routine, by the number of those above it; none if there are not that many. Does not
+    /// allocate.
+    pub fn peek(&self, above: usize) -> Option<Held>
+        ensures { result ≡ slice_get self.now.top above }
     {
         if above < self.len() {
-            self.items.get(self.items.len() - 1 - above)
+            self.items.datum(self.items.len() - 1 - above)
+        } else {
+            None
+        }
+    }
+
+    /// The num of an operand of the running routine, by the number of those above it; none if there is none.
+    pub fn num(&self, above: usize) -> Option<Num>
+        ensures { result ≡ option_and_then as_num (slice_get self.now.top above) }
+    {
+        if above < self.len() {
+            self.items.num(self.items.len() - 1 - above)
+        } else {
+            None
+        }
+    }
+
+    /// The bool of an operand of the running routine, by the number of those above it; none if there is none.
+    pub fn truth(&self, above: usize) -> Option<bool>
+        ensures { result ≡ option_and_then as_bool (slice_get self.now.top above) }
+    {
+        if above < self.len() {
+            self.items.truth(self.items.len() - 1 - above)
+        } else {
+            None
+        }
+    }
+
+    /// What an operand of the running routine stands for, by the number of those above it; none if it is not there or
+    /// stands for nothing.
+    pub fn place(&self, above: usize) -> Option<Lvalue>
+        ensures { result ≡ option_and_then place_in (slice_get self.now.top above) }
+    {
+        if above < self.len() {
+            self.items.place(self.items.len() - 1 - above)
         } else {
             None
         }
@@ -73,16 +111,36 @@ impl Operands {
         requires room { operands_in self.old < self.old.room }
         ensures { self.new ≡ record self.old { top = datum ∷ self.old.top } }
     {
-        self.items.push_reserved(datum);
+        self.items.push(datum);
     }
 
-    /// Pops the operand on top.
+    /// Pushes a value. Does not allocate.
+    pub fn push_value(&mut self, value: Value)
+        requires room { operands_in self.old < self.old.room }
+        ensures { self.new ≡ record self.old { top = Plain value ∷ self.old.top } }
+    {
+        self.items.push_value(value);
+    }
+
+    /// Pushes what a reference parameter stands for. Does not allocate.
+    pub fn push_place(&mut self, place: Lvalue)
+        requires room { operands_in self.old < self.old.room }
+        ensures { self.new ≡ record self.old { top = Place place ∷ self.old.top } }
+    {
+        self.items.push_place(place);
+    }
+
+    /// Pops the operand on top. Does not allocate.
     pub fn pop(&mut self) -> Held
         requires some { self.old.top ≢ [] }
         ensures { self.old ≡ record self.new { top = result ∷ self.new.top } }
     {
-        match self.items.pop() {
-            Some(datum) => datum,
+        let last = self.items.len() - 1;
+        match self.items.datum(last) {
+            Some(datum) => {
+                self.items.truncate(last);
+                datum
+            }
             None => unreachable!(),
         }
     }
@@ -95,22 +153,22 @@ impl Operands {
         self.items.truncate(self.items.len() - 1);
     }
 
-    /// Replaces the operand on top by a value. If both are nums it writes only the num. Does not allocate.
+    /// Replaces the operand on top by a value. Does not allocate.
     pub fn set_top_value(&mut self, value: Value)
         requires some { self.old.top ≢ [] }
         ensures { self.new ≡ record self.old { top = Plain value ∷ drop 1 self.old.top } }
     {
         let last = self.items.len() - 1;
-        self.items[last].set_value(value);
+        self.items.set_value(last, value);
     }
 
-    /// Replaces the operand on top by a num. Over a num it writes only the num.
+    /// Replaces the operand on top by a num.
     pub fn set_top_num(&mut self, number: Num)
         requires some { self.old.top ≢ [] }
         ensures { self.new ≡ record self.old { top = Plain (values.Num number) ∷ drop 1 self.old.top } }
     {
         let last = self.items.len() - 1;
-        self.items[last].set_num(number);
+        self.items.set_num(last, number);
     }
 
     /// Begins a routine without operands, above those of the routine that waits for it. Does not allocate.
@@ -141,14 +199,14 @@ impl Operands {
         self.items.truncate(self.base);
     }
 
-    /// Moves `count` operands from the top to the end of a list, in the order in which they were pushed. Does not
+    /// Moves `count` operands from the top to the end of a row, in the order in which they were pushed. Does not
     /// allocate.
-    pub(crate) fn move_to(&mut self, count: usize, list: &mut Vec<Held>)
+    pub(crate) fn move_to(&mut self, count: usize, list: &mut Words)
         requires some { count ≤ length self.old.top }
-        requires room { vec_len list.old + count ≤ vec_capacity list.old }
+        requires room { length list.old.items + count ≤ list.old.room }
         ensures rest { self.new ≡ record self.old { top = drop count self.old.top } }
         ensures moved { list.new.items ≡ list.old.items ++ reverse (take count self.old.top) }
-        ensures capacity { vec_capacity list.new ≡ vec_capacity list.old }
+        ensures room { list.new.room ≡ list.old.room }
     {
         let at = self.items.len() - count;
         move_tail(&mut self.items, at, list);

@@ -18,12 +18,14 @@ use std::{fs, io};
 // The maximum number of bytes to ask for at once.
 const CHUNK: usize = 4096;
 
-/// The files of the runtime, by path. The script's own name is relative to the caller's folder, every other name to the
-/// script's folder. This shelf reports nothing about its files. Contracts see it as its number of faults.
+/// The files of the runtime, by path. The names of the script and of a printed history are relative to the caller's
+/// folder, every other name to the script's folder. This shelf reports nothing about its files. Contracts see it as its
+/// number of faults.
 #[derive(Drop)]
 pub struct FileShelf<'a, R: Files> {
     runtime: &'a R,
     script: &'a str,
+    history: &'a str,
     faults: u64,
 }
 
@@ -41,9 +43,17 @@ impl<'a, R: Files> FileShelf<'a, R> {
     pub fn new(runtime: &'a R, script: &'a str) -> FileShelf<'a, R>
         ensures no_faults_yet { result ≡ 0 }
     {
+        FileShelf::with_history(runtime, script, script)
+    }
+
+    /// The same, with the name of a printed history, which is opened as it is too.
+    pub fn with_history(runtime: &'a R, script: &'a str, history: &'a str) -> FileShelf<'a, R>
+        ensures no_faults_yet { result ≡ 0 }
+    {
         FileShelf {
             runtime,
             script,
+            history,
             faults: 0,
         }
     }
@@ -71,7 +81,7 @@ impl<'a, R: Files> Shelf for FileShelf<'a, R> {
         ensures failures_are_counted { self.new ≡ faults_after_read self.old result }
     {
         let start = into.len();
-        let result = match path_from(alloc, self.script, name) {
+        let result = match path_from(alloc, self.script, self.history, name) {
             Ok(path) => read_path(self.runtime, path.as_path(), limit, into),
             Err(_) => Err(ShelfFault::Memory),
         };
@@ -88,10 +98,13 @@ impl<'a, R: Files> Shelf for FileShelf<'a, R> {
 }
 
 // The path of the file with this name.
-fn path_from(alloc: Global, script: &str, name: &str) -> Result<PathBuf, AllocError>
-    ensures { IfOk result (λ path. path_buf_bytes path ≡ path_from script.now name.now) }
+fn path_from(alloc: Global, script: &str, history: &str, name: &str) -> Result<PathBuf, AllocError>
+    ensures { IfOk result (λ path. path_buf_bytes path ≡ path_from script.now history.now name.now) }
 {
     if name == script {
+        return PathBuf::from_str(alloc, name);
+    }
+    if name == history {
         return PathBuf::from_str(alloc, name);
     }
     match Path::new(script).parent() {

@@ -18,10 +18,14 @@ names_differ instructions.WZLimSup = refl
 names_differ instructions.WZDOSet = refl
 names_differ _ = refl
 
-pub two_where_excluded : (i : Instruction) → ¬ (choice i ≡ choices.Any) → length (options i) ≡ 2
-two_where_excluded instructions.TPWrite h = refl
-two_where_excluded instructions.WZLimJointDef h = refl
-two_where_excluded instructions.WZHomeJointDef h = refl
-two_where_excluded instructions.WZLimSup h = refl
-two_where_excluded instructions.WZDOSet h = refl
-two_where_excluded _ h = absurd (h refl)
+pub two_where_excluded : (i : Instruction) → ¬ (choice i ≡ choices.Any) → ¬ (choice i ≡ choices.InsideAndOne) → length (options i) ≡ 2
+two_where_excluded instructions.TPWrite any inside = refl
+two_where_excluded instructions.WZLimJointDef any inside = refl
+two_where_excluded instructions.WZHomeJointDef any inside = refl
+two_where_excluded instructions.WZLimSup any inside = refl
+two_where_excluded instructions.WZDOSet any inside = absurd (inside refl)
+two_where_excluded _ any inside = absurd (any refl)
+
+pub three_with_inside : (i : Instruction) → choice i ≡ choices.InsideAndOne → length (options i) ≡ 3
+three_with_inside instructions.WZDOSet is = refl
+three_with_inside _ is = absurd cc

@@ -96,7 +96,7 @@ options instructions.IPers = plain (codes "Single") ∷ []
 options instructions.WZLimJointDef = plain (codes "Inside") ∷ plain (codes "Outside") ∷ []
 options instructions.WZHomeJointDef = plain (codes "Inside") ∷ plain (codes "Outside") ∷ []
 options instructions.WZLimSup = plain (codes "Temp") ∷ plain (codes "Stat") ∷ []
-options instructions.WZDOSet = plain (codes "Temp") ∷ plain (codes "Stat") ∷ []
+options instructions.WZDOSet = plain (codes "Temp") ∷ plain (codes "Stat") ∷ plain (codes "Inside") ∷ []
 options _ = []
 
 -- the first of the rows whose name is this one, case-insensitively
@@ -110,7 +110,7 @@ choice instructions.TPWrite = choices.OneAtMost
 choice instructions.WZLimJointDef = choices.JustOne
 choice instructions.WZHomeJointDef = choices.JustOne
 choice instructions.WZLimSup = choices.JustOne
-choice instructions.WZDOSet = choices.Never
+choice instructions.WZDOSet = choices.InsideAndOne
 choice _ = choices.Any
 
 -- an instruction that is allowed only in a task with an arm

@@ -21,7 +21,7 @@ instruction_rows =
     ∷ (codes "IWatch", instructions.IWatch) ∷ (codes "IDelete", instructions.IDelete) ∷ (codes "IDisable", instructions.IDisable)
     ∷ (codes "IEnable", instructions.IEnable) ∷ (codes "WZLimJointDef", instructions.WZLimJointDef)
     ∷ (codes "WZHomeJointDef", instructions.WZHomeJointDef) ∷ (codes "WZLimSup", instructions.WZLimSup)
-    ∷ (codes "WZDisable", instructions.WZDisable) ∷ (codes "WZEnable", instructions.WZEnable) ∷ (codes "WZFree", instructions.WZFree)
+    ∷ (codes "WZDOSet", instructions.WZDOSet) ∷ (codes "WZDisable", instructions.WZDisable) ∷ (codes "WZEnable", instructions.WZEnable) ∷ (codes "WZFree", instructions.WZFree)
     ∷ (codes "Incr", instructions.Incr) ∷ (codes "Decr", instructions.Decr) ∷ (codes "Clear", instructions.Clear)
     ∷ (codes "Add", instructions.Add) ∷ []
 

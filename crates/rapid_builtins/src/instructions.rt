@@ -6,7 +6,7 @@ ghost use Rattle.rapid_builtins.specs.Names.{instruction_of};
 use crate::table::meant_by;
 use rapid_model::Instruction;
 
-static INSTRUCTIONS: [(&[u8], Instruction); 30] = [
+static INSTRUCTIONS: [(&[u8], Instruction); 31] = [
     (b"MoveAbsJ", Instruction::MoveAbsJ),
     (b"Set", Instruction::Set),
     (b"Reset", Instruction::Reset),
@@ -30,6 +30,7 @@ static INSTRUCTIONS: [(&[u8], Instruction); 30] = [
     (b"WZLimJointDef", Instruction::WZLimJointDef),
     (b"WZHomeJointDef", Instruction::WZHomeJointDef),
     (b"WZLimSup", Instruction::WZLimSup),
+    (b"WZDOSet", Instruction::WZDOSet),
     (b"WZDisable", Instruction::WZDisable),
     (b"WZEnable", Instruction::WZEnable),
     (b"WZFree", Instruction::WZFree),

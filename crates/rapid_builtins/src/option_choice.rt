@@ -7,6 +7,6 @@ pub enum Choice {
     OneAtMost,
     /// Exactly one: they exclude each other, and one must be present.
     JustOne,
-    /// No call is valid, whichever of them it has.
-    Never,
+    /// `Inside` and exactly one of the others, which exclude each other.
+    InsideAndOne,
 }

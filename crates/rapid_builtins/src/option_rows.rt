@@ -50,13 +50,27 @@ pub fn options(instruction: Instruction) -> &'static [InstructionOption]
                 value: None,
             },
         ],
-        Instruction::WZLimSup | Instruction::WZDOSet => &[
+        Instruction::WZLimSup => &[
             InstructionOption {
                 name: b"Temp",
                 value: None,
             },
             InstructionOption {
                 name: b"Stat",
+                value: None,
+            },
+        ],
+        Instruction::WZDOSet => &[
+            InstructionOption {
+                name: b"Temp",
+                value: None,
+            },
+            InstructionOption {
+                name: b"Stat",
+                value: None,
+            },
+            InstructionOption {
+                name: b"Inside",
                 value: None,
             },
         ],
@@ -73,7 +87,7 @@ pub fn choice(instruction: Instruction) -> Choice
         Instruction::TPWrite => Choice::OneAtMost,
         Instruction::WZLimJointDef | Instruction::WZHomeJointDef | Instruction::WZLimSup =>
             Choice::JustOne,
-        Instruction::WZDOSet => Choice::Never,
+        Instruction::WZDOSet => Choice::InsideAndOne,
         _ => Choice::Any,
     }
 }

@@ -7,6 +7,9 @@ pub const SCRIPT_BYTES: usize = 262_144;
 /// The maximum size of a module, in bytes.
 pub const MODULE_BYTES: usize = 1_048_576;
 
+/// The maximum size of a printed history that is read, in bytes.
+pub const HISTORY_BYTES: usize = 33_554_432;
+
 /// The maximum length of a name, in bytes (RAPID Kernel, identifiers).
 pub const LONGEST_NAME: usize = 32;
 

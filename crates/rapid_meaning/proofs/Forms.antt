@@ -12,7 +12,7 @@ use Rattle.rapid_model.specs.declared.instruction.Instruction.TheVariants as ins
 use Rattle.rapid_model.specs.declared.part_name.PartName.TheVariants as parts
 use Rattle.rapid_model.specs.declared.path.Path.{Path}
 use Rattle.rapid_model.specs.declared.request.Request.TheVariants as requests
-use Rattle.rapid_model.specs.declared.request.Request.TheVariants.{Look, ReadP, WriteP, TestSet, ReadS, WriteS, Position, Order, Sleep, Leave, ZoneSet, Hold, Rise, Say, End}
+use Rattle.rapid_model.specs.declared.request.Request.TheVariants.{Look, ReadP, WriteP, TestSet, ReadS, WriteS, Position, Order, Sleep, Leave, ZoneSet, ZoneTie, Hold, Rise, Say, End}
 use Rattle.rapid_model.specs.declared.sort.Sort.TheVariants as sorts
 use Rattle.rapid_model.specs.declared.tail.Tail.TheVariants as tails
 use Rattle.rapid_model.specs.declared.value.Value.TheVariants as values
@@ -342,6 +342,32 @@ has_ten_zones = refl
 has_the_zone : asked_along supervising [] (go ∷ go ∷ answers.ZoneUsed ∷ Ok ∷ []) ≡ all_of (Look ∷ Look ∷ ZoneSet 0 true low_zone ∷ fault faults.ZoneUsed ∷ [])
 unfolding asked_along
 has_the_zone = refl
+
+-- a zone sets an output, if its shape was defined and the output's value is one
+abbrev pub opening : TypedExpr → TypedTree
+opening value = task_of (shape_row ∷ mark_row sorts.WzStationary ∷ []) (proc (
+    does instructions.WZLimJointDef (Optional (codes "Inside") NoArgument ∷ Lent (module_place 0 sorts.ShapeData) ∷ Given (first_bound 1_000) ∷ Given (first_bound 2_000) ∷ [])
+    ∷ does instructions.WZDOSet (Optional (codes "Stat") NoArgument ∷ Optional (codes "Inside") NoArgument ∷ Lent (module_place 1 sorts.WzStationary) ∷ Lent (module_place 0 sorts.ShapeData) ∷ OfSignal 1 ∷ Given value ∷ []) ∷ []) ∷ [])
+
+abbrev pub opening_shapeless : TypedTree
+opening_shapeless = task_of (shape_row ∷ mark_row sorts.WzStationary ∷ []) (proc (
+    does instructions.WZDOSet (Optional (codes "Stat") NoArgument ∷ Optional (codes "Inside") NoArgument ∷ Lent (module_place 1 sorts.WzStationary) ∷ Lent (module_place 0 sorts.ShapeData) ∷ OfSignal 1 ∷ Given (num 1) ∷ []) ∷ []) ∷ [])
+
+opens : asked_along (opening (num 1)) [] (go ∷ go ∷ answers.Number 4 ∷ Ok ∷ []) ≡ all_of (Look ∷ Look ∷ ZoneTie 0 false low_zone 1 true ∷ done ∷ [])
+unfolding asked_along
+opens = refl
+
+opens_by_one : asked_along (opening (num 2)) [] (go ∷ go ∷ Ok ∷ []) ≡ all_of (Look ∷ Look ∷ fault faults.SignalValue ∷ [])
+unfolding asked_along
+opens_by_one = refl
+
+opens_a_shape : asked_along opening_shapeless [] (go ∷ Ok ∷ []) ≡ all_of (Look ∷ fault faults.ZoneShape ∷ [])
+unfolding asked_along
+opens_a_shape = refl
+
+opens_alone : asked_along (opening (num 0)) [] (go ∷ go ∷ answers.Tied ∷ Ok ∷ []) ≡ all_of (Look ∷ Look ∷ ZoneTie 0 false low_zone 1 false ∷ fault faults.TiedOutput ∷ [])
+unfolding asked_along
+opens_alone = refl
 
 is_tied : asked_along signalling [] (go ∷ answers.Tied ∷ Ok ∷ []) ≡ all_of (Look ∷ WriteS 1 true ∷ fault faults.TiedOutput ∷ [])
 unfolding asked_along

@@ -63,7 +63,7 @@ use Rattle.rapid_meaning.specs.Places.{at_element, element_or_fault, indexed, lo
 use Rattle.rapid_meaning.specs.Signals.{has_value, when_written, write_signal}
 use Rattle.rapid_meaning.specs.Statements.{and_then, assign, byte_of, chosen, connects, done_or_held, follows, inner_or_not, instructs, is_among, leg, points, raised, selected, stmt, turn, turned}
 use Rattle.rapid_meaning.specs.Values.{applied, between, bit_in, in_range, mark_in, num_in, opposite, shape_in, target_in, text_in, tool_speed_in, truth_in, value_in, with_sign}
-use Rattle.rapid_meaning.specs.Zones.{define, define_home, defined, position_or_fault, shape_at, shaped, supervise, when_numbered, when_zoned}
+use Rattle.rapid_meaning.specs.Zones.{define, define_home, defined, position_or_fault, shape_at, shaped, supervise, tie, when_numbered, when_zoned}
 use Rattle.rapid_meaning.proofs.Counts.{AreKept, IsLeft, all_left, below_counts, counts, found, kept_further, kept_self, left_of_left, put_counts, seen_counts}
 use Rattle.rapid_meaning.proofs.Room.{HasRoom, entered_room, left_room, put_room, seen_room}
 
@@ -583,10 +583,14 @@ t_when_numbered : (p : Lvalue) (a : Answer) → IsTidy (when_numbered p a)
 t_when_numbered p (answers.Number number) = t_store p (datums.Mark number)
 t_when_numbered p answers.ZoneUsed = t_fault
 t_when_numbered p answers.ZoneFull = t_fault
+t_when_numbered p answers.Tied = t_fault
 t_when_numbered p _ = t_misfit
 
 t_supervise : (p : Lvalue) (old : ℕ) (temporary : Bool) (shape : Shape) → IsTidy (supervise p old temporary shape)
 t_supervise p old temporary shape = t_asks tt (t_when_numbered p)
+
+t_tie : (p : Lvalue) (old : ℕ) (temporary : Bool) (held : Option Shape) (signal : ℕ) (value : Bool) → IsTidy (tie p old temporary held signal value)
+t_tie p old temporary held signal value = t_then (t_defined held) (λ shape. t_asks tt (t_when_numbered p))
 
 t_when_zoned : (a : Answer) → IsTidy (when_zoned a)
 t_when_zoned answers.Ok = t_gives
@@ -650,6 +654,8 @@ t_instructed tree routine instructions.WZHomeJointDef (Lent shape ∷ Given midd
     t_then (t_place tree routine shape) (λ q. t_then (t_target tree routine middle) (λ m. t_then (t_target tree routine delta) (λ d. t_next (t_define_home tree.axes q _ m d) t_gives)))
 t_instructed tree routine instructions.WZLimSup (Lent zone ∷ Lent shape ∷ []) options =
     t_then (t_place tree routine zone) (λ q. t_then (t_number_at q) (λ old. t_then (t_place tree routine shape) (λ p. t_then (t_shape_at p) (λ s. t_next (t_supervise q old _ s) t_gives))))
+t_instructed tree routine instructions.WZDOSet (Lent zone ∷ Lent shape ∷ OfSignal signal ∷ Given e ∷ []) options =
+    t_then (t_place tree routine zone) (λ q. t_then (t_number_at q) (λ old. t_then (t_place tree routine shape) (λ p. t_then (t_load p) (λ v. t_then (t_shape_in v) (λ held. t_then (t_bit tree routine e) (λ b. t_next (t_tie q old _ held signal b) t_gives))))))
 t_instructed tree routine instructions.WZDisable (Lent zone ∷ []) options =
     t_then (t_place tree routine zone) (λ q. t_then (t_number_at q) (λ number. t_next (t_asks tt t_when_zoned) t_gives))
 t_instructed tree routine instructions.WZEnable (Lent zone ∷ []) options =

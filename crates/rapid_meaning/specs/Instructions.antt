@@ -18,10 +18,10 @@ use Rattle.rapid_meaning.specs.Flows.{Way}
 use Rattle.rapid_meaning.specs.Interrupts.{asks_of_number, number_at, order, pers_at}
 use Rattle.rapid_meaning.specs.Meetings.{arrive, tasks_in}
 use Rattle.rapid_meaning.specs.Moves.{aim, still}
-use Rattle.rapid_meaning.specs.Places.{read_value, store, test_and_set, write_value}
+use Rattle.rapid_meaning.specs.Places.{load, read_value, store, test_and_set, write_value}
 use Rattle.rapid_meaning.specs.Signals.{has_value, write_signal}
-use Rattle.rapid_meaning.specs.Values.{bit_in, in_range, num_in, target_in, text_in, tool_speed_in, truth_in, whole}
-use Rattle.rapid_meaning.specs.Zones.{asks_of_zone, define, define_home, shape_at, supervise}
+use Rattle.rapid_meaning.specs.Values.{bit_in, in_range, num_in, shape_in, target_in, text_in, tool_speed_in, truth_in, whole}
+use Rattle.rapid_meaning.specs.Zones.{asks_of_zone, define, define_home, shape_at, supervise, tie}
 
 -- the arguments without the options, in order
 abbrev pub needed : TypedArgs → List TypedArg
@@ -158,6 +158,13 @@ instructed tree routine instructions.WZLimSup (Lent zone ∷ Lent shape ∷ []) 
   p ← place tree routine shape
   s ← shape_at p
   supervise q old (has (codes "Temp") options) s
+  ready)
+instructed tree routine instructions.WZDOSet (Lent zone ∷ Lent shape ∷ OfSignal signal ∷ Given e ∷ []) options = marked tree routine zone (λ q old. do
+  p ← place tree routine shape
+  v ← load p
+  held ← shape_in v
+  b ← bit tree routine e
+  tie q old (has (codes "Temp") options) held signal b
   ready)
 instructed tree routine instructions.WZDisable (Lent zone ∷ []) options = marked tree routine zone (λ q number. asks_of_zone (requests.ZoneOff number) >> ready)
 instructed tree routine instructions.WZEnable (Lent zone ∷ []) options = marked tree routine zone (λ q number. asks_of_zone (requests.ZoneOn number) >> ready)

@@ -1,4 +1,4 @@
--- World zones (RAPID Instructions: WZLimJointDef, WZHomeJointDef, WZLimSup, WZDisable, WZEnable, WZFree).
+-- World zones (RAPID Instructions: WZLimJointDef, WZHomeJointDef, WZLimSup, WZDOSet, WZDisable, WZEnable, WZFree).
 use Rattle.std.specs.Prelude.{ℕ, Bool, ◌||◌, ℤ, List, [], ◌∷◌, Option, None, Some, Result, Ok, Err, if◌then◌else◌}
 use Rattle.std.specs.Option.{option_and_then, option_map}
 use Rattle.rapid_num.specs.Absent.{absent, is_absent}
@@ -13,7 +13,7 @@ use Rattle.joint_clip.specs.declared.shape_fault.ShapeFault.TheVariants as shape
 use Rattle.rapid_model.specs.declared.fate.Fault.{Fault}
 use Rattle.rapid_model.specs.declared.fate.Fault.TheVariants as faults
 use Rattle.rapid_model.specs.declared.request.Request.{Request}
-use Rattle.rapid_model.specs.declared.request.Request.TheVariants.{ZoneSet}
+use Rattle.rapid_model.specs.declared.request.Request.TheVariants.{ZoneSet, ZoneTie}
 use Rattle.typed_trees.specs.declared.datum.Datum.TheVariants as datums
 use Rattle.typed_trees.specs.declared.datum.Lvalue.{Lvalue}
 use Rattle.rapid_meaning.specs.Doings.{Doing, Gives, Misfit, Asks, Act, ◌>>=◌, done, fault}
@@ -70,11 +70,18 @@ abbrev pub when_numbered : Lvalue → Answer → Act
 when_numbered place (answers.Number number) = store place (datums.Mark number)
 when_numbered place answers.ZoneUsed = fault faults.ZoneUsed
 when_numbered place answers.ZoneFull = fault faults.ZoneFull
+when_numbered place answers.Tied = fault faults.TiedOutput
 when_numbered place _ = Misfit
 
 -- supervises a shape as the zone of a variable, which holds the old number
 abbrev pub supervise : Lvalue → ℕ → Bool → Shape → Act
 supervise place old temporary shape = Asks (ZoneSet old temporary shape) (when_numbered place)
+
+-- ties a signal to a shape, if it was defined, as the zone of a variable, which holds the old number
+abbrev pub tie : Lvalue → ℕ → Bool → Option Shape → ℕ → Bool → Act
+tie place old temporary held signal value = do
+  shape ← defined held
+  Asks (ZoneTie old temporary shape signal value) (when_numbered place)
 
 abbrev pub when_zoned : Answer → Act
 when_zoned answers.Ok = done

@@ -158,6 +158,16 @@ pub(crate) fn outcome_of<W: AsSlice<u8>>(
         String::from_str(alloc, "b.mod")?,
         Vec::from_slice(alloc, modules[1])?,
     ))?;
+    done_with(alloc, words, files, failing_write)
+}
+
+/// Does what the words say with these files; the write with this number to the first sink fails.
+pub(crate) fn done_with<W: AsSlice<u8>>(
+    alloc: Global,
+    words: &[W],
+    files: Vec<(String, Vec<u8>)>,
+    failing_write: Option<u32>,
+) -> Result<Outcome, Fail> {
     let mut failing = Vec::new(alloc);
     if let Some(number) = failing_write {
         failing.push(number)?;
@@ -179,7 +189,7 @@ fn round(alloc: Global, module: &[u8]) -> Result<Outcome, Fail> {
 }
 
 /// The call printed these lines, and nothing on the second sink.
-fn printed(
+pub(crate) fn printed(
     rt: &impl Abort,
     left: &Outcome,
     status: u8,
@@ -276,7 +286,7 @@ fn failing_writes(rt: HostRuntime) -> Result<(), Fail> {
 }
 
 /// The call was refused with this status and line, which is one write, and left no history.
-fn refused(rt: &impl Abort, left: &Outcome, status: u8, line: &[u8]) {
+pub(crate) fn refused(rt: &impl Abort, left: &Outcome, status: u8, line: &[u8]) {
     assert_eq!(rt; left.out.bytes(), b"".as_slice());
     assert_eq!(rt; left.err.bytes(), line);
     assert_eq!(rt; left.err.calls().len(), 1);
@@ -286,7 +296,7 @@ fn refused(rt: &impl Abort, left: &Outcome, status: u8, line: &[u8]) {
 }
 
 /// Words that are refused, each with its position, from 0.
-static WORDS: [(&[&str], &[u8]); 9] = [
+static WORDS: [(&[&str], &[u8]); 12] = [
     (&["round"], b"rapid_cell: words 1\n"),
     (&["--history", "round"], b"rapid_cell: words 2\n"),
     (&["--history"], b"rapid_cell: words 1\n"),
@@ -294,6 +304,12 @@ static WORDS: [(&[&str], &[u8]); 9] = [
     (&["", "cell"], b"rapid_cell: words 0\n"),
     (&["round", "cell", "more"], b"rapid_cell: words 2\n"),
     (&["round", "x", "y", "-z"], b"rapid_cell: words 3\n"),
+    (&["audit", "cell"], b"rapid_cell: words 2\n"),
+    (&["audit", "--history", "cell"], b"rapid_cell: words 3\n"),
+    (
+        &["audit", "cell", "history", "more"],
+        b"rapid_cell: words 3\n",
+    ),
     (
         &["nosuch", "a", "b", "--history", "--history"],
         b"rapid_cell: words 4\n",
@@ -325,12 +341,14 @@ fn words(rt: HostRuntime) -> Result<(), Fail> {
 }
 
 /// Words that are not all valid UTF-8, each with the position of the one that is refused, from 0.
-static NO_TEXTS: [(&[&[u8]], &[u8]); 5] = [
+static NO_TEXTS: [(&[&[u8]], &[u8]); 7] = [
     (&[b"round", b"cell\xff"], b"rapid_cell: words 1\n"),
     (&[b"--history", b"round", b"\xc3"], b"rapid_cell: words 2\n"),
     (&[b"\xff", b"cell"], b"rapid_cell: words 0\n"),
     (&[b"round", b"\xff", b"more"], b"rapid_cell: words 2\n"),
     (&[b"round", b"\xff", b"-\xff"], b"rapid_cell: words 2\n"),
+    (&[b"audit", b"cell", b"\xff"], b"rapid_cell: words 2\n"),
+    (&[b"audit", b"\xff", b"\xff"], b"rapid_cell: words 1\n"),
 ];
 
 #[test]

@@ -102,6 +102,34 @@ fn files(rt: HostRuntime) -> Result<(), Fail> {
     Ok(())
 }
 
+// A printed history: its name is a path from here, like the script's, although the script lies in a folder of its own.
+#[test]
+fn a_history_beside(rt: HostRuntime) -> Result<(), Fail> {
+    let alloc = rt.alloc();
+    let (folder, script, history) = ("outside_audit", "outside_audit/cell", "outside_history");
+    fs::create_dir(&rt, folder)?;
+    let mut sink = StreamSink::new(fs::create(&rt, script)?);
+    assert_eq!(rt; sink.write(b"abc"), Ok(3));
+    let mut sink = StreamSink::new(fs::create(&rt, history)?);
+    assert_eq!(rt; sink.write(b"d"), Ok(1));
+    let mut shelf = FileShelf::with_history(&rt, script, history);
+    let mut into = Vec::new(alloc);
+    assert_eq!(rt; shelf.read(alloc, script, 3, &mut into), Ok(()));
+    assert_eq!(rt; shelf.read(alloc, history, 3, &mut into), Ok(()));
+    assert_eq!(rt; into.as_slice(), b"abcd".as_slice());
+    // Without the word for a history the name is a path from the script's folder.
+    let mut shelf = FileShelf::new(&rt, script);
+    assert_eq!(rt;
+        shelf.read(alloc, history, 3, &mut into),
+        Err(ShelfFault::Failed)
+    );
+    assert_eq!(rt; into.len(), 4);
+    fs::remove_file(&rt, script)?;
+    fs::remove_file(&rt, history)?;
+    fs::remove_dir(&rt, folder)?;
+    Ok(())
+}
+
 // A cell in its own folder: its script's name is a path from here, its module's a path from that folder.
 #[test]
 fn files_beside(rt: HostRuntime) -> Result<(), Fail> {

@@ -1,6 +1,8 @@
-//! Tests of shelves, sinks, cores, lines and whole cells, worked by hand.
+//! Tests of shelves, sinks, cores, lines, whole cells and audits, worked by hand.
 #![tactic(auto)]
 
+#[cfg(test)]
+mod audits;
 #[cfg(test)]
 mod bounds;
 #[cfg(test)]

@@ -10,10 +10,10 @@ use Rattle.rapid_meaning.proofs.Trees.{first_at, first_bound, moves, number, pro
 use Rattle.std.proofs.Common.{refl, true, false, pos, neg_ℤ, [], ◌∷◌}
 use Rattle.std.specs.Fmt.{digits}
 use Rattle.typed_trees.specs.Plain.{Known}
-use Rattle.rapid_meaning.proofs.Trees.{first_at, first_bound, moves, number, proc, task_of}
+use Rattle.rapid_meaning.proofs.Trees.{first_at, first_bound, moves, num, number, proc, task_of}
 use Rattle.rapid_meaning.proofs.Asked.{go, joints}
 use Rattle.rapid_meaning.proofs.SmallTasks.{adding, connecting_twice, counting, disabled, diving, failing_again, interrupted, looping, meeting, moving, moving_in_trap, raising, raising_again, raising_too_high, reckoning, retrying, skipping, sleeping, trapped_on_the_way, trying, waiting, zoned}
-use Rattle.rapid_meaning.proofs.Forms.{choosing, computing, deciding, dozing, failing_trap, homing, homing_at, jumping, leaving, misnaming, ordering, reading, returning, shapeless, shaping, signalling, stepping, stepping_trapped, supervising, taking, tallying, writing}
+use Rattle.rapid_meaning.proofs.Forms.{choosing, computing, deciding, dozing, failing_trap, homing, homing_at, jumping, leaving, misnaming, opening, opening_shapeless, ordering, reading, returning, shapeless, shaping, signalling, stepping, stepping_trapped, supervising, taking, tallying, writing}
 use Rattle.stack_code.proofs.CodeAsked.{StandsAlike, compiled_stands, tree_stands}
 
 moves_in_steps : StandsAlike moving (go ∷ At (joints (pos 0)) ∷ Let ∷ go ∷ Let ∷ go ∷ Let ∷ Ok ∷ [])
@@ -228,6 +228,18 @@ has_ten_zones = refl
 has_the_zone : StandsAlike supervising (go ∷ go ∷ answers.ZoneUsed ∷ Ok ∷ [])
 unfolding compiled_stands tree_stands
 has_the_zone = refl
+
+opens : StandsAlike (opening (num 1)) (go ∷ go ∷ answers.Number 4 ∷ Ok ∷ [])
+unfolding compiled_stands tree_stands
+opens = refl
+
+opens_by_one : StandsAlike (opening (num 2)) (go ∷ go ∷ Ok ∷ [])
+unfolding compiled_stands tree_stands
+opens_by_one = refl
+
+opens_a_shape : StandsAlike opening_shapeless (go ∷ Ok ∷ [])
+unfolding compiled_stands tree_stands
+opens_a_shape = refl
 
 is_tied : StandsAlike signalling (go ∷ answers.Tied ∷ Ok ∷ [])
 unfolding compiled_stands tree_stands

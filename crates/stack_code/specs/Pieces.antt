@@ -106,6 +106,10 @@ list_length tree routine list = unwrap_or (lent_length tree routine list) 0
 abbrev pub order_of : OrderOn → List TypedArg → Op
 order_of on options = ops.Order on (has (codes "Single") options)
 
+-- a zone that sets a signal, temporary with the option
+abbrev pub tie_of : ℕ → List TypedArg → Op
+tie_of signal options = ops.ZoneTie (has (codes "Temp") options) signal
+
 -- the pieces of a step, from the arguments without the options, and the options; none if its argument has another form
 abbrev pub piece_of : TypedTree → TypedRoutine → List TypedArg → List TypedArg → Step → Option Piece
 piece_of tree routine args options (steps.Value n) = option_map OfExpr (value_at args n)
@@ -132,6 +136,7 @@ piece_of tree routine args options (steps.TaskSet n) = option_map (λ list. Does
 piece_of tree routine args options (steps.Arrive n) = option_map (λ meeting. Does (ops.Arrive (meeting_number tree meeting))) (meeting_at args n)
 piece_of tree routine args options (steps.Shape home) = Some (Does (ops.Shape (has (codes "Inside") options) home))
 piece_of tree routine args options steps.ZoneSet = Some (Does (ops.ZoneSet (has (codes "Temp") options)))
+piece_of tree routine args options (steps.ZoneTie n) = option_map (λ signal. Does (tie_of signal options)) (signal_at args n)
 piece_of tree routine args options steps.Tail = option_map OfExpr (tail_in options)
 piece_of tree routine args options steps.Say = option_map (λ kind. Does (ops.Say kind)) (tail_kind_in options)
 

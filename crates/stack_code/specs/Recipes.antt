@@ -6,7 +6,7 @@ use Rattle.rapid_model.specs.declared.instruction.Instruction.TheVariants as ins
 use Rattle.rapid_model.specs.declared.operator.Operator.TheVariants.{Equal, Add, Sub}
 use Rattle.stack_code.specs.declared.irq_op.IrqOp.TheVariants.{Sleep, Watch, Delete, Disable, Enable}
 use Rattle.stack_code.specs.declared.step.Step.{Step}
-use Rattle.stack_code.specs.declared.step.Step.TheVariants.{Value, Place, Count, Drop, Dup, Over, Load, Store, Bit, Still, Travel, TestSet, Binary, Irq, Zone, Wait, GetSignal, PutSignal, OrderSignal, OrderPers, TaskSet, Arrive, Shape, ZoneSet, Tail, Say}
+use Rattle.stack_code.specs.declared.step.Step.TheVariants.{Value, Place, Count, Drop, Dup, Over, Load, Store, Bit, Still, Travel, TestSet, Binary, Irq, Zone, Wait, GetSignal, PutSignal, OrderSignal, OrderPers, TaskSet, Arrive, Shape, ZoneSet, ZoneTie, Tail, Say}
 use Rattle.stack_code.specs.declared.zone_op.ZoneOp.TheVariants.{On, Off, Free}
 
 abbrev pub recipe : Instruction → List Step
@@ -38,7 +38,7 @@ recipe instructions.IEnable = Irq Enable ∷ []
 recipe instructions.WZLimJointDef = Place 0 ∷ Value 1 ∷ Value 2 ∷ Shape false ∷ []
 recipe instructions.WZHomeJointDef = Place 0 ∷ Value 1 ∷ Value 2 ∷ Shape true ∷ []
 recipe instructions.WZLimSup = Place 0 ∷ Dup ∷ Load ∷ Place 1 ∷ Load ∷ ZoneSet ∷ []
-recipe instructions.WZDOSet = []
+recipe instructions.WZDOSet = Place 0 ∷ Dup ∷ Load ∷ Place 1 ∷ Load ∷ Value 3 ∷ ZoneTie 2 ∷ []
 recipe instructions.WZDisable = Place 0 ∷ Dup ∷ Load ∷ Zone Off ∷ []
 recipe instructions.WZEnable = Place 0 ∷ Dup ∷ Load ∷ Zone On ∷ []
 recipe instructions.WZFree = Place 0 ∷ Dup ∷ Load ∷ Zone Free ∷ []

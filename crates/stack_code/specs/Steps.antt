@@ -30,7 +30,7 @@ use Rattle.rapid_meaning.specs.Places.{at_root, indexed, kept_place, load, own_p
 use Rattle.rapid_meaning.specs.Signals.{write_signal}
 use Rattle.rapid_meaning.specs.Statements as statements
 use Rattle.rapid_meaning.specs.Values.{applied, bit_in, num_in, of_bit, opposite, target_in, text_in, tool_speed_in, truth_in, whole, with_sign}
-use Rattle.rapid_meaning.specs.Zones.{asks_of_zone, define, define_home, defined, supervise}
+use Rattle.rapid_meaning.specs.Zones.{asks_of_zone, define, define_home, defined, supervise, tie}
 use Rattle.stack_code.specs.Functions.{of_value, of_values}
 use Rattle.stack_code.specs.CodeData.{CodeData}
 use Rattle.stack_code.specs.Confs.{Conf, Called, Trapped}
@@ -212,6 +212,7 @@ act h (ops.Irq irqs.Enable) = does h h.conf.stack (tells requests.Enable)
 act h (ops.Shape inside false) = on_value h.conf.stack (λ w rest. on_value rest (λ v below. on_place below (λ p bottom. does h bottom (target_in v >>= λ low. target_in w >>= λ high. define h.code.axes p inside low high))))
 act h (ops.Shape inside true) = on_value h.conf.stack (λ w rest. on_value rest (λ v below. on_place below (λ p bottom. does h bottom (target_in v >>= λ middle. target_in w >>= λ delta. define_home h.code.axes p inside middle delta))))
 act h (ops.ZoneSet temporary) = on_shape h.conf.stack (λ held rest. on_mark rest (λ old below. on_place below (λ p bottom. does h bottom (defined held >>= λ shape. supervise p old temporary shape))))
+act h (ops.ZoneTie temporary s) = on_value h.conf.stack (λ v rest. on_shape rest (λ held below. on_mark below (λ old bottom. on_place bottom (λ p base. does h base (bit_in v >>= λ bit. tie p old temporary held s bit)))))
 act h (ops.Zone zones.On) = on_mark h.conf.stack (λ n rest. on_place rest (λ p below. does h below (asks_of_zone (requests.ZoneOn n))))
 act h (ops.Zone zones.Off) = on_mark h.conf.stack (λ n rest. on_place rest (λ p below. does h below (asks_of_zone (requests.ZoneOff n))))
 act h (ops.Zone zones.Free) = on_mark h.conf.stack (λ n rest. on_place rest (λ p below. does h below (asks_of_zone (requests.ZoneFree n) >> store p (Mark 0))))

@@ -83,6 +83,8 @@ pub enum Op {
     Shape(bool, bool),
     /// Supervises a shape as a temporary or a stationary zone.
     ZoneSet(bool),
+    /// Pops a signal value, and ties a signal to a shape as a temporary or a stationary zone.
+    ZoneTie(bool, u32),
     Zone(ZoneOp),
     Say(TailKind),
 }

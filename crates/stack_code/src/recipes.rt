@@ -6,7 +6,7 @@ use crate::step::Step;
 use crate::step::Step::{
     Arrive, Binary, Bit, Count, Drop, Dup, GetSignal, Irq, Load, OrderPers, OrderSignal, Over,
     Place, PutSignal, Say, Shape, Still, Store, Tail, TaskSet, TestSet, Travel, Value, Wait, Zone,
-    ZoneSet,
+    ZoneSet, ZoneTie,
 };
 use crate::zone_op::ZoneOp;
 use rapid_model::{Instruction, Operator};
@@ -39,7 +39,7 @@ pub fn recipe(instruction: Instruction) -> &'static [Step]
         Instruction::WZLimJointDef => &[Place(0), Value(1), Value(2), Shape(false)],
         Instruction::WZHomeJointDef => &[Place(0), Value(1), Value(2), Shape(true)],
         Instruction::WZLimSup => &[Place(0), Dup, Load, Place(1), Load, ZoneSet],
-        Instruction::WZDOSet => &[],
+        Instruction::WZDOSet => &[Place(0), Dup, Load, Place(1), Load, Value(3), ZoneTie(2)],
         Instruction::WZDisable => &[Place(0), Dup, Load, Zone(ZoneOp::Off)],
         Instruction::WZEnable => &[Place(0), Dup, Load, Zone(ZoneOp::On)],
         Instruction::WZFree => &[Place(0), Dup, Load, Zone(ZoneOp::Free)],

@@ -45,6 +45,8 @@ pub enum Step {
     Shape(bool),
     /// Supervises a shape, temporarily with the option `Temp`.
     ZoneSet,
+    /// Ties a signal argument to a shape, temporarily with the option `Temp`.
+    ZoneTie(usize),
     /// Evaluates the value of the only option, if there is one.
     Tail,
     /// Says a text, followed by the tail if there is one.

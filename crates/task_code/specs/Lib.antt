@@ -1,4 +1,5 @@
 pub mod Owners
+pub mod Armless
 pub mod Live
 pub mod IsCode
 pub mod Reached

@@ -9,7 +9,7 @@ use typed_trees::Datum;
 
 /// The code of a task. Contracts see it as plain data. Its invariant: the code is live (after any answers that fit step
 /// by step it reaches a request, or has ended); the owners tile the operations in order; there are fewer than 2^32
-/// operations and module data; and the arm has 6 to 12 axes, or 0 without an arm.
+/// operations and module data; the arm has 6 to 12 axes, or 0 without an arm; and without an arm no operation needs one.
 #[derive(Drop)]
 pub struct Code {
     pub linked: LinkedCode,

@@ -297,6 +297,9 @@ placed_act h (ops.Shape inside true) d =
 placed_act h (ops.ZoneSet temporary) d =
     on_shape_placed h.conf.stack _ d (λ held rest. on_mark_placed rest _ d (λ old below. on_place_placed below _ d (λ p bottom. placed_does h bottom _ d
     (placed_then (defined held) _ d (placed_defined held d) (λ shape e. tt)))))
+placed_act h (ops.ZoneTie temporary s) d =
+    on_value_placed h.conf.stack _ d (λ v rest. on_shape_placed rest _ d (λ held below. on_mark_placed below _ d (λ old bottom. on_place_placed bottom _ d (λ p base. placed_does h base _ d
+    (placed_then (bit_in v) _ d (placed_bit v d) (λ bit e. placed_then (defined held) _ e (placed_defined held e) (λ shape f. tt)))))))
 placed_act h (ops.Zone zones.On) d = on_mark_placed h.conf.stack _ d (λ n rest. on_place_placed rest _ d (λ p below. placed_does h below _ d tt))
 placed_act h (ops.Zone zones.Off) d = on_mark_placed h.conf.stack _ d (λ n rest. on_place_placed rest _ d (λ p below. placed_does h below _ d tt))
 placed_act h (ops.Zone zones.Free) d =

@@ -249,6 +249,7 @@ pub placed_numbered : (p : Lvalue) (a : Answer) (d : Data) → Placed (when_numb
 placed_numbered p (answers.Number number) d = placed_store p (datums.Mark number) d
 placed_numbered p answers.ZoneUsed d = tt
 placed_numbered p answers.ZoneFull d = tt
+placed_numbered p answers.Tied d = tt
 placed_numbered p a d = tt
 
 pub placed_zoned : (a : Answer) (d : Data) → Placed (when_zoned a) d

@@ -108,7 +108,8 @@ impl Course {
 
     /// The number of the task's module data.
     pub(crate) fn slots(&self) -> u32
-        ensures { result ≡ length self.now.code.slots }
+        ensures code { result ≡ length self.now.code.slots }
+        ensures data { result ≡ length self.now.task.data'.slots }
     {
         self.task.slots()
     }

@@ -106,7 +106,8 @@ impl Machine {
 
     /// The number of the task's module data.
     pub fn slots(&self) -> u32
-        ensures { result ≡ length self.now.code.slots }
+        ensures code { result ≡ length self.now.code.slots }
+        ensures data { result ≡ length self.now.data'.slots }
     {
         self.course.slots()
     }

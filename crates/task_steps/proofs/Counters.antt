@@ -1,11 +1,12 @@
 -- The data of a FOR.
-use Rattle.std.proofs.Common.{◌≡◌, refl, ap, ◌∙◌, ℕ, suc, ◌+◌, ℤ, length, Bool, Option, None, Some, if◌then◌else◌}
+use Rattle.std.proofs.Common.{◌≡◌, refl, sym, ap, ◌∙◌, ℕ, suc, ◌+◌, ℤ, length, Bool, true, false, Option, None, Some, if◌then◌else◌}
+use Rattle.std.specs.Prelude.{is_some}
 use Rattle.std.specs.Option.{option_and_then}
 use Rattle.rapid_num.specs.Arithmetic.{sum_of}
 use Rattle.rapid_model.specs.declared.part_name.PartName.TheVariants as parts
 use Rattle.rapid_model.specs.declared.value.Value.{Value}
 use Rattle.rapid_model.specs.declared.value.Value.TheVariants as values
-use Rattle.machine_stacks.specs.Forms.{as_value}
+use Rattle.machine_stacks.specs.Forms.{as_num, as_value}
 use Rattle.typed_trees.specs.declared.datum.Datum.{Datum}
 use Rattle.typed_trees.specs.declared.datum.Datum.TheVariants as datums
 use Rattle.typed_trees.specs.declared.datum.Lvalue.{Lvalue}
@@ -31,19 +32,10 @@ unfolding after
 after_gives v f = refl
 
 -- the num that a datum is
-pub held_num : (x : Datum) (v : Value) (o : Option ℤ) → as_value x ≡ Some v → num_in v ≡ or_misfit o → (value_in x >>= num_in) ≡ or_misfit o
+held_is : (x : Datum) → (value_in x >>= num_in) ≡ or_misfit (as_num x)
 unfolding after
-held_num (datums.Plain w) v o e is = let same : w ≡ v = cc in ap num_in same ∙ is
-held_num (datums.Mark n) v o e is = cc
-held_num (datums.Shape s) v o e is = cc
-held_num (datums.Place p) v o e is = cc
-
-pub held_none : (x : Datum) → as_value x ≡ None → (value_in x >>= num_in) ≡ Misfit
-unfolding after
-held_none (datums.Plain w) e = cc
-held_none (datums.Mark n) e = refl
-held_none (datums.Shape s) e = refl
-held_none (datums.Place p) e = refl
+held_is (datums.Plain (values.Num n)) = refl
+held_is x = refl
 
 -- what is done with a place among the data of the frame
 abbrev reading : (ℤ → Doing Conf) → Lvalue → Doing Conf
@@ -70,17 +62,26 @@ counter_reads : (code : CodeData) (d : Data) (k at : ℕ) (o : Option Datum) (ne
     → Alike code (counter_at at >>= next) d (reading_datum next o) d
 counter_reads code d k at o next some there = counter_at_place code d k at o next (own_there d.frames k at some) there
 
-pub counter_none : (code : CodeData) (d : Data) (k at : ℕ) (next : ℤ → Doing Conf) → length d.frames ≡ suc k → datum_at (roots.Frame k at) d ≡ None → Alike code (counter_at at >>= next) d Misfit d
+counter_none : (code : CodeData) (d : Data) (k at : ℕ) (next : ℤ → Doing Conf) → length d.frames ≡ suc k → datum_at (roots.Frame k at) d ≡ None → Alike code (counter_at at >>= next) d Misfit d
 unfolding after
 counter_none code d k at next some none = counter_reads code d k at None next some none
 
-pub counter_there : (code : CodeData) (d : Data) (k at : ℕ) (x : Datum) (o : Option ℤ) (next : ℤ → Doing Conf) → length d.frames ≡ suc k → datum_at (roots.Frame k at) d ≡ Some x
+counter_there : (code : CodeData) (d : Data) (k at : ℕ) (x : Datum) (o : Option ℤ) (next : ℤ → Doing Conf) → length d.frames ≡ suc k → datum_at (roots.Frame k at) d ≡ Some x
     → (value_in x >>= num_in) ≡ or_misfit o → Alike code (counter_at at >>= next) d (or_misfit o >>= next) d
 counter_there code d k at x o next some there is =
     alike_then code _ _ _ d d d (counter_reads code d k at (Some x) next some there)
     (alike_is code _ _ d
     (ap (λ (y : Option Datum). or_misfit y >>= value_in >>= num_in >>= next) (whole_in x)
     ∙ ap (λ (m : Doing ℤ). m >>= next) (ap (λ (m : Doing Value). m >>= num_in) (after_gives x value_in) ∙ is)))
+
+pub counter_num : (code : CodeData) (d : Data) (k at : ℕ) (o : Option ℤ) (next : ℤ → Doing Conf) → length d.frames ≡ suc k → o ≡ option_and_then as_num (datum_at (roots.Frame k at) d)
+    → Alike code (counter_at at >>= next) d (or_misfit o >>= next) d
+unfolding after
+counter_num code d k at o next some is = by (datum_at (roots.Frame k at) d) refl is
+  where
+    by : (x : Option Datum) → datum_at (roots.Frame k at) d ≡ x → o ≡ option_and_then as_num x → Alike code (counter_at at >>= next) d (or_misfit o >>= next) d
+    by None there is = rw is (counter_none code d k at next some there)
+    by (Some x) there is = counter_there code d k at x o next some there (held_is x ∙ ap or_misfit (sym is))
 
 -- a counter that was read
 pub counted_some : (code : CodeData) (d : Data) (at : ℕ) (o : Option ℤ) (v : ℤ) (next : ℤ → Doing Conf)
@@ -168,13 +169,13 @@ step_all code h d at to o p v w first is second its =
     (counted_some code d (at + 2) p w (λ step. stepped h at to (sum_of v step)) second its)
 
 -- a num over a value, and over a datum that is none
-pub put_over : (x : Datum) (v : Value) (n : ℤ) → as_value x ≡ Some v → put_in parts.Whole (datums.Plain (values.Num n)) x ≡ Some (datums.Plain (values.Num n))
+put_over : (x : Datum) (v : Value) (n : ℤ) → as_value x ≡ Some v → put_in parts.Whole (datums.Plain (values.Num n)) x ≡ Some (datums.Plain (values.Num n))
 put_over (datums.Plain w) v n e = refl
 put_over (datums.Mark m) v n e = cc
 put_over (datums.Shape s) v n e = cc
 put_over (datums.Place p) v n e = cc
 
-pub put_over-none : (x : Datum) (n : ℤ) → as_value x ≡ None → put_in parts.Whole (datums.Plain (values.Num n)) x ≡ None
+put_over-none : (x : Datum) (n : ℤ) → as_value x ≡ None → put_in parts.Whole (datums.Plain (values.Num n)) x ≡ None
 put_over-none (datums.Plain w) n e = cc
 put_over-none (datums.Mark m) n e = refl
 put_over-none (datums.Shape s) n e = refl
@@ -206,18 +207,41 @@ set_reads : (code : CodeData) (d : Data) (k at : ℕ) (n : ℤ) (o : Option Datu
     → Alike code (set_counter_at at n >> m) d (writing_datum k at d m o) d
 set_reads code d k at n o m some there = set_at_place code d k at n o m (own_there d.frames k at some) there
 
-pub set_none : (code : CodeData) (d : Data) (k at : ℕ) (n : ℤ) (m : Doing Conf) → length d.frames ≡ suc k → datum_at (roots.Frame k at) d ≡ None → Alike code (set_counter_at at n >> m) d Misfit d
+set_none : (code : CodeData) (d : Data) (k at : ℕ) (n : ℤ) (m : Doing Conf) → length d.frames ≡ suc k → datum_at (roots.Frame k at) d ≡ None → Alike code (set_counter_at at n >> m) d Misfit d
 unfolding after
 set_none code d k at n m some none = set_reads code d k at n None m some (ap (put_whole n) none)
 
-pub set_lacks : (code : CodeData) (d : Data) (k at : ℕ) (n : ℤ) (x : Datum) (m : Doing Conf) → length d.frames ≡ suc k → datum_at (roots.Frame k at) d ≡ Some x
+set_lacks : (code : CodeData) (d : Data) (k at : ℕ) (n : ℤ) (x : Datum) (m : Doing Conf) → length d.frames ≡ suc k → datum_at (roots.Frame k at) d ≡ Some x
     → put_in parts.Whole (datums.Plain (values.Num n)) x ≡ None → Alike code (set_counter_at at n >> m) d Misfit d
 unfolding after
 set_lacks code d k at n x m some there none = set_reads code d k at n None m some (ap (put_whole n) there ∙ none)
 
-pub set_there : (code : CodeData) (d : Data) (k at : ℕ) (n : ℤ) (x y : Datum) (m : Doing Conf) → length d.frames ≡ suc k → datum_at (roots.Frame k at) d ≡ Some x
+set_there : (code : CodeData) (d : Data) (k at : ℕ) (n : ℤ) (x y : Datum) (m : Doing Conf) → length d.frames ≡ suc k → datum_at (roots.Frame k at) d ≡ Some x
     → put_in parts.Whole (datums.Plain (values.Num n)) x ≡ Some y → Alike code (set_counter_at at n >> m) d m (put_at (roots.Frame k at) y d)
 unfolding after
 set_there code d k at n x y m some there put =
     alike_then code _ _ _ d d (put_at (roots.Frame k at) y d) (set_reads code d k at n (Some y) m some (ap (put_whole n) there ∙ put))
     (writes_now code (put_at (roots.Frame k at) y d) m d)
+
+-- over a value, and over what is none
+pub set_valued : (code : CodeData) (d : Data) (k at : ℕ) (n : ℤ) (m : Doing Conf) (b : Bool) → length d.frames ≡ suc k → b ≡ is_some (option_and_then as_value (datum_at (roots.Frame k at) d)) → b ≡ true
+    → Alike code (set_counter_at at n >> m) d m (put_at (roots.Frame k at) (datums.Plain (values.Num n)) d)
+set_valued code d k at n m b some is so = by (datum_at (roots.Frame k at) d) refl is
+  where
+    by : (o : Option Datum) → datum_at (roots.Frame k at) d ≡ o → b ≡ is_some (option_and_then as_value o) → Alike code (set_counter_at at n >> m) d m (put_at (roots.Frame k at) (datums.Plain (values.Num n)) d)
+    by None there is = absurd cc
+    by (Some (datums.Plain v)) there is = set_there code d k at n (datums.Plain v) (datums.Plain (values.Num n)) m some there (put_over (datums.Plain v) v n refl)
+    by (Some (datums.Mark j)) there is = absurd cc
+    by (Some (datums.Shape s)) there is = absurd cc
+    by (Some (datums.Place p)) there is = absurd cc
+
+pub set_unvalued : (code : CodeData) (d : Data) (k at : ℕ) (n : ℤ) (m : Doing Conf) (b : Bool) → length d.frames ≡ suc k → b ≡ is_some (option_and_then as_value (datum_at (roots.Frame k at) d)) → b ≡ false
+    → Alike code (set_counter_at at n >> m) d Misfit d
+set_unvalued code d k at n m b some is so = by (datum_at (roots.Frame k at) d) refl is
+  where
+    by : (o : Option Datum) → datum_at (roots.Frame k at) d ≡ o → b ≡ is_some (option_and_then as_value o) → Alike code (set_counter_at at n >> m) d Misfit d
+    by None there is = set_none code d k at n m some there
+    by (Some (datums.Plain v)) there is = absurd cc
+    by (Some (datums.Mark j)) there is = set_lacks code d k at n (datums.Mark j) m some there (put_over-none (datums.Mark j) n refl)
+    by (Some (datums.Shape s)) there is = set_lacks code d k at n (datums.Shape s) m some there (put_over-none (datums.Shape s) n refl)
+    by (Some (datums.Place p)) there is = set_lacks code d k at n (datums.Place p) m some there (put_over-none (datums.Place p) n refl)

@@ -1,7 +1,9 @@
 -- Operations that are done in place.
-use Rattle.std.proofs.Common.{◌≡◌, refl, sym, ap, ◌∙◌, Bool, ℤ, List, [], ◌∷◌, drop, Option, None, Some, slice_get}
+use Rattle.std.proofs.Common.{◌≡◌, refl, sym, ap, ◌∙◌, ℕ, ℤ, List, [], ◌∷◌, drop, Option, None, Some, slice_get}
 use Rattle.std.specs.Option.{option_and_then, option_map}
 use Rattle.rapid_model.specs.declared.operator.Operator.{Operator}
+use Rattle.rapid_model.specs.declared.path.Path.{Path}
+use Rattle.rapid_model.specs.declared.request.Request.TheVariants.{ReadP, WriteP}
 use Rattle.rapid_model.specs.declared.value.Value.{Value}
 use Rattle.rapid_model.specs.declared.value.Value.TheVariants as values
 use Rattle.rapid_values.specs.Operators.{apply}
@@ -14,18 +16,20 @@ use Rattle.typed_trees.specs.declared.datum.Lvalue.{Lvalue}
 use Rattle.typed_trees.specs.declared.datum.Root.{Root}
 use Rattle.typed_trees.specs.declared.datum.Root.TheVariants as roots
 use Rattle.rapid_meaning.specs.Data.{Data, datum_at, put_at}
-use Rattle.rapid_meaning.specs.Doings.{Doing, Misfit, Raises, after, or_misfit}
+use Rattle.rapid_meaning.specs.Doings.{Doing, after}
 use Rattle.rapid_meaning.specs.Places.{load, part_in, put_in, store}
-use Rattle.rapid_meaning.specs.Values.{applied, truth_in}
+use Rattle.rapid_meaning.specs.Values.{applied}
 use Rattle.stack_code.specs.CodeData.{CodeData}
 use Rattle.stack_code.specs.Confs.{Conf}
-use Rattle.stack_code.specs.Operands.{on_place, on_top, on_truth, on_value}
+use Rattle.stack_code.specs.Operands.{on_place, on_top, on_value}
 use Rattle.stack_code.specs.Steps.{Here, act, does, pushes, to_next}
 use Rattle.stack_code.specs.declared.op.Op.TheVariants as ops
-use Rattle.task_steps.specs.Alike.{Alike, popped}
-use Rattle.task_steps.specs.Doing.{here_of}
+use Rattle.task_steps.specs.Alike.{Alike}
+use Rattle.task_steps.specs.Doing.{doing_of, here_of}
 use Rattle.task_steps.specs.Own.{IsNumAt, IsOwn}
+use Rattle.task_steps.specs.Phases as phases
 use Rattle.task_steps.specs.Points.{Point}
+use Rattle.task_steps.specs.declared.requests.pending.Pending.TheVariants as pendings
 use Rattle.task_steps.proofs.Along.{alike_is, alike_then}
 use Rattle.task_steps.proofs.Storings.{load_own, store_own}
 
@@ -68,31 +72,28 @@ store_num code c d place n old top below held =
     alike_then code _ _ _ d d _ (alike_is code _ _ d (ap (λ (xs : List Datum). on_top xs (λ x rest. on_place rest (λ p more. does h more (store p x)))) (two_are c.stack (Plain (values.Num n)) (Place place) top below)))
     (store_own code (record h { conf = record h.conf { stack = drop 1 (drop 1 c.stack) } }) d (put_at place.root (Plain (values.Num n)) d) place.root place.part (Plain (values.Num n)) there own put)
 
+-- a part of a persistent is asked for, and written
+pub load_pers : (code : CodeData) (c : Point) (d : Data) (pers : ℕ) (path : Path) → slice_get c.stack 0 ≡ Some (Place (record { root = roots.Pers pers path.index; part = path.part }))
+    → Alike code (act (here_of code c) ops.Load) d (doing_of code (phases.Asking (ReadP pers path) pendings.Read) (record c { stack = drop 1 c.stack })) d
+unfolding after
+load_pers code c d pers path top =
+    let h = here_of code c in
+    alike_is code _ _ d (ap (λ (xs : List Datum). on_place xs (λ p rest. pushes h rest (λ x. x) (load p))) (top_is c.stack _ top))
+
+pub store_pers : (code : CodeData) (c : Point) (d : Data) (pers : ℕ) (path : Path) (v : Value) → slice_get c.stack 0 ≡ Some (Plain v) → slice_get c.stack 1 ≡ Some (Place (record { root = roots.Pers pers path.index; part = path.part }))
+    → Alike code (act (here_of code c) ops.Store) d (doing_of code (phases.Asking (WriteP pers path v) pendings.Confirmed) (record c { stack = drop 1 (drop 1 c.stack) })) d
+unfolding after
+store_pers code c d pers path v top below =
+    let h = here_of code c in
+    alike_is code _ _ d (ap (λ (xs : List Datum). on_top xs (λ x rest. on_place rest (λ p more. does h more (store p x)))) (two_are c.stack _ _ top below))
+
 -- the values of operands
-there_value : (o : Option Datum) (v : Value) → option_and_then as_value o ≡ Some v → o ≡ Some (Plain v)
+pub there_value : (o : Option Datum) (v : Value) → option_and_then as_value o ≡ Some v → o ≡ Some (Plain v)
 there_value None v e = cc
 there_value (Some (datums.Plain w)) v e = let same : w ≡ v = cc in ap (λ (u : Value). Some (Plain u)) same
 there_value (Some (datums.Mark n)) v e = cc
 there_value (Some (datums.Shape s)) v e = cc
 there_value (Some (datums.Place p)) v e = cc
-
--- a bool on top, or none
-truth_there : (m : Doing Bool) (r : Option Bool) (rest : List Datum) (next : Bool → List Datum → Doing Conf) → m ≡ or_misfit r → after m (λ b. next b rest) Raises ≡ popped r rest next
-unfolding after
-truth_there m None rest next e = rw e refl
-truth_there m (Some b) rest next e = rw e refl
-
-pub truth_on : (xs : List Datum) (v : Value) (r : Option Bool) (next : Bool → List Datum → Doing Conf) → Some v ≡ option_and_then as_value (slice_get xs 0) → truth_in v ≡ or_misfit r
-    → on_truth xs next ≡ popped r (drop 1 xs) next
-truth_on xs v r next top is =
-    ap (λ (ys : List Datum). on_truth ys next) (top_is xs (Plain v) (there_value (slice_get xs 0) v (sym top))) ∙ truth_there (truth_in v) r (drop 1 xs) next is
-
-pub truth_none : (xs : List Datum) (next : Bool → List Datum → Doing Conf) → None ≡ option_and_then as_value (slice_get xs 0) → on_truth xs next ≡ Misfit
-truth_none [] next e = refl
-truth_none (datums.Plain w ∷ rest) next e = cc
-truth_none (datums.Mark n ∷ rest) next e = refl
-truth_none (datums.Shape s ∷ rest) next e = refl
-truth_none (datums.Place p ∷ rest) next e = refl
 
 -- an operator with its operands
 abbrev applies : Here → Operator → List Datum → Doing Conf

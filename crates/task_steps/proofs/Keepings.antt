@@ -21,12 +21,13 @@ not_connected code h d place answers.NoMore numbered already more = absurd (more
 not_connected code h d place _ numbered already more = record { same = λ left. refl }
 
 pub not_supervised : (code : CodeData) (h : Here) (d : Data) (place : Lvalue) (a : Answer) → ((number : ℕ) → a ≡ answers.Number number → ⊥) → (a ≡ answers.ZoneUsed → ⊥) → (a ≡ answers.ZoneFull → ⊥)
-    → Alike code (answered h (pendings.Supervised place) a) d Misfit d
+    → (a ≡ answers.Tied → ⊥) → Alike code (answered h (pendings.Supervised place) a) d Misfit d
 unfolding after
-not_supervised code h d place (answers.Number number) numbered used full = absurd (numbered number refl)
-not_supervised code h d place answers.ZoneUsed numbered used full = absurd (used refl)
-not_supervised code h d place answers.ZoneFull numbered used full = absurd (full refl)
-not_supervised code h d place _ numbered used full = record { same = λ left. refl }
+not_supervised code h d place (answers.Number number) numbered used full tied = absurd (numbered number refl)
+not_supervised code h d place answers.ZoneUsed numbered used full tied = absurd (used refl)
+not_supervised code h d place answers.ZoneFull numbered used full tied = absurd (full refl)
+not_supervised code h d place answers.Tied numbered used full tied = absurd (tied refl)
+not_supervised code h d place _ numbered used full tied = record { same = λ left. refl }
 
 pub not_freed : (code : CodeData) (h : Here) (d : Data) (place : Lvalue) (a : Answer) → (a ≡ answers.Ok → ⊥) → (a ≡ answers.NoZone → ⊥)
     → Alike code (answered h (pendings.Freed place) a) d Misfit d

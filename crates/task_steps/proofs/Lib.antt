@@ -18,6 +18,7 @@ pub mod Picks
 pub mod Homes
 pub mod Shapings
 pub mod Elements
+pub mod Found
 pub mod Gatherings
 pub mod Keepings
 pub mod Departures

@@ -5,9 +5,7 @@ use Rattle.rapid_model.specs.declared.value.Value.{Value}
 use Rattle.machine_stacks.specs.Forms.{as_mark, as_shape, as_value}
 use Rattle.typed_trees.specs.declared.datum.Datum.{Datum}
 use Rattle.typed_trees.specs.declared.datum.Datum.TheVariants as datums
-use Rattle.typed_trees.specs.declared.datum.Lvalue.{Lvalue}
-use Rattle.rapid_meaning.specs.Places.{place_in}
-use Rattle.stack_code.specs.Operands.{on_mark, on_place, on_shape, on_value}
+use Rattle.stack_code.specs.Operands.{on_mark, on_shape, on_value}
 use Rattle.rapid_meaning.specs.Doings.{Doing}
 use Rattle.stack_code.specs.CodeData.{CodeData}
 use Rattle.stack_code.specs.Confs.{Conf}
@@ -53,12 +51,6 @@ value_on (datums.Plain v) rest next = refl
 value_on (datums.Mark n) rest next = refl
 value_on (datums.Shape s) rest next = refl
 value_on (datums.Place p) rest next = refl
-
-pub place_on : (x : Datum) (rest : List Datum) (next : Lvalue → List Datum → Doing Conf) → on_place (x ∷ rest) next ≡ popped (place_in x) rest next
-place_on (datums.Plain v) rest next = refl
-place_on (datums.Mark n) rest next = refl
-place_on (datums.Shape s) rest next = refl
-place_on (datums.Place p) rest next = refl
 
 pub mark_on : (x : Datum) (rest : List Datum) (next : ℕ → List Datum → Doing Conf) → on_mark (x ∷ rest) next ≡ popped (as_mark x) rest next
 mark_on (datums.Plain v) rest next = refl

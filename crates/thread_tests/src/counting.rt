@@ -3,7 +3,7 @@
 use crate::abreast::Abreast;
 use crate::outcome::{Outcome, outcome_of};
 use crate::replay::{is_legal_and_whole, tells_its_history};
-use outside::MemoryShelf;
+use outside::{MemoryShelf, NoPace};
 use std::alloc::{AllocError, Global};
 use std::sync::Wait;
 use std::test::Fail;
@@ -17,7 +17,8 @@ const FOUR_TASKS: &[u8] =
 const COUNT: &[u8] =
     b"MODULE Count\nPERS num count := 0;\nPROC main()\ncount := count + 1;\nWaitUntil count >= 3;\ncount := count + 1;\nENDPROC\nENDMODULE\n";
 
-fn four_task_files(alloc: Global) -> Result<MemoryShelf, AllocError> {
+/// The files of the cell, and a history of it.
+fn four_task_files(alloc: Global, history: &[u8]) -> Result<MemoryShelf, AllocError> {
     let mut files = Vec::new(alloc);
     files.push((
         String::from_str(alloc, "cell")?,
@@ -27,11 +28,15 @@ fn four_task_files(alloc: Global) -> Result<MemoryShelf, AllocError> {
         String::from_str(alloc, "count.mod")?,
         Vec::from_slice(alloc, COUNT)?,
     ))?;
+    files.push((
+        String::from_str(alloc, "history")?,
+        Vec::from_slice(alloc, history)?,
+    ))?;
     Ok(MemoryShelf::new(files, Vec::new(alloc)))
 }
 
 fn outcome<R: AllocGlobal + Threads + Wait + Sync>(rt: &R, action: &str) -> Result<Outcome, Fail> {
-    let files = four_task_files(rt.alloc())?;
+    let files = four_task_files(rt.alloc(), b"")?;
     outcome_of(
         rt,
         rt.alloc(),
@@ -50,6 +55,24 @@ fn a_thousand_runs(rt: HostRuntime) -> Result<(), Fail> {
         let history = left.report.history.as_slice();
         assert!(rt; is_legal_and_whole(history, &[]), "{history:?}");
         assert!(rt; tells_its_history(&left.report), "{history:?}");
+    }
+    Ok(())
+}
+
+/// Whatever the order of a run is, its printed history is found legal and whole.
+#[test]
+fn audited_runs(rt: HostRuntime) -> Result<(), Fail> {
+    let alloc = rt.alloc();
+    for _ in 0..100 {
+        let files = four_task_files(alloc, b"")?;
+        let words = &["--history", "run", "cell"];
+        let left = outcome_of(&rt, alloc, words, files, None, &Abreast::new())?;
+        let files = four_task_files(alloc, left.out.bytes())?;
+        let words = &["audit", "cell", "history"];
+        let audited = outcome_of(&rt, alloc, words, files, None, &NoPace)?;
+        let line = format!(in alloc; "A legal {} whole\n", left.report.history.len())?;
+        assert_eq!(rt; audited.out.bytes(), line.as_bytes());
+        assert_eq!(rt; audited.report.status, 0);
     }
     Ok(())
 }

@@ -28,7 +28,7 @@ pub(crate) fn outcome_of<R: Threads + Wait + Sync, P: Pace + Sync>(
     if let Some(number) = failing_write {
         failing.push(number)?;
     }
-    let mut out = MemorySink::new(alloc, 4000, failing).ok().ok_or("room")?;
+    let mut out = MemorySink::new(alloc, 10_000, failing).ok().ok_or("room")?;
     let mut err = MemorySink::new(alloc, 100, Vec::new(alloc))
         .ok()
         .ok_or("room")?;

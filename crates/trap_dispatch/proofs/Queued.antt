@@ -1,19 +1,20 @@
 -- Each number that waits stays connected, and the queue keeps its room.
-use Rattle.std.proofs.Common.{◌≡◌, ◌≢◌, ◌⊎◌, inl, inr, ℕ, zero, suc, ◌+◌, ◌-◌, ◌<◌, ◌≤◌, Bool, true, false, not, cond, ◌||◌, eqb, nat_lt, List, [], ◌∷◌, ◌++◌, length, get_or, set, map, take, Option, None, Some, is_some, refl, ◌∙◌, arith}
+use Rattle.std.proofs.Common.{◌≡◌, ◌≢◌, ◌⊎◌, inl, inr, ℕ, zero, suc, ◌+◌, ◌-◌, ◌<◌, ◌≤◌, Bool, true, false, not, cond, ◌||◌, eqb, nat_lt, List, [], ◌∷◌, ◌++◌, length, get_or, set, map, take, Option, None, Some, is_some, refl, sym, ap, ◌∙◌, arith}
 use Rattle.std.specs.List.{filter, list_all, range_with_len}
-use Rattle.std.proofs.lemmas.Bool.{false≢true}
-use Rattle.std.proofs.lemmas.Bool.Decides.{eqb_tells}
+use Rattle.std.proofs.lemmas.Bool.{cases_lt, eqb-true, false≢true}
+use Rattle.std.proofs.lemmas.Bool.Decides.{eqb_tells, nat_tests}
 use Rattle.std.proofs.lemmas.Grind.{get_or-set_at}
-use Rattle.std.proofs.lemmas.List.{get_or-set_other, length-set, length-map, length-take}
+use Rattle.std.proofs.lemmas.List.{append-nil, get_or-set_other, length-set, length-map, length-take, take_all}
 use Rattle.std.proofs.lemmas.List.Folds.{list_all-append}
 use Rattle.std.proofs.Math.ListN.{get_or-map}
+use Rattle.std.proofs.Math.Numerals.{add-one}
 use Rattle.circular_buffer.specs.Buffer.{Buffer, buffer}
 use Rattle.rapid_model.specs.declared.watched.Watched.{Watched}
 use Rattle.rapid_model.proofs.Lists.{filter_short}
 use Rattle.trap_dispatch.specs.declared.connected.Connected.{Connected}
 use Rattle.trap_dispatch.specs.Firing.{connected_at, fires, fired_numbers, after_firing}
 use Rattle.trap_dispatch.specs.Tasks.{TaskData, IsTask, after_changes}
-use Rattle.trap_dispatch.proofs.Fired.{connected_at-next}
+use Rattle.trap_dispatch.proofs.Fired.{connected_at-next, fired_more}
 use Rattle.trap_dispatch.proofs.Tests.{list_all-weaker, list_all-take, list_all-filter, list_all-true}
 
 abbrev pub is_connected : List (Option Connected) → ℕ → Bool
@@ -114,3 +115,56 @@ pub parts-after : (changes : List Watched) (t : TaskData) (numbers : List (Optio
     → record { numbers = numbers; queue = new.items; flood = flood; disabled = t.disabled; in_trap = t.in_trap } ≡ after_changes changes t
 parts-after changes t numbers queue new fired flood is_after is_fired is_room is_queue is_new is_flood =
     rw (is_new, is_flood, is_after, is_fired, is_room, is_queue) refl
+
+-- if no number fires, the changes change nothing
+
+left_empty : (xs ys : List ℕ) → xs ++ ys ≡ [] → (xs ≡ []) × (ys ≡ [])
+left_empty [] ys h = (refl, h)
+left_empty (x ∷ xs) ys h = cc
+
+no_more : (b : Bool) (n : ℕ) → cond b (n ∷ []) [] ≡ [] → b ≡ false
+no_more true n h = cc
+no_more false n h = refl
+
+unfired-after : (changes : List Watched) (c : Option Connected) → fires changes c ≡ false → after_firing changes c ≡ c
+unfired-after changes None h = refl
+unfired-after changes (Some c) h = rw h refl
+
+unfired : (changes : List Watched) (numbers : List (Option Connected)) (n : ℕ)
+    → filter (λ number. fires changes (connected_at numbers number)) (range_with_len 1 n) ≡ []
+    → (k : ℕ) → k < n → fires changes (get_or numbers k None) ≡ false
+unfired changes numbers zero none k h = absurd (omega arith)
+unfired changes numbers (suc n) none k h =
+    let so_far : List ℕ = filter (λ number. fires changes (connected_at numbers number)) (range_with_len 1 n) in
+    let last : List ℕ = cond (fires changes (get_or numbers n None)) ((n + 1) ∷ []) [] in
+    let whole : so_far ++ last ≡ [] = sym (fired_more changes numbers n) ∙ rw add-one none in
+    let parts = left_empty so_far last whole in
+    elim (cases_lt k n) [
+      | inl below ↦ unfired changes numbers n parts.0 k below
+      | inr past ↦
+          let same : k ≡ n = omega arith in
+          rw same (no_more (fires changes (get_or numbers n None)) (n + 1) parts.1)
+    ]
+
+same-map : (changes : List Watched) (numbers : List (Option Connected)) → ((k : ℕ) → k < length numbers → fires changes (get_or numbers k None) ≡ false) → map (after_firing changes) numbers ≡ numbers
+same-map changes [] none = refl
+same-map changes (c ∷ numbers) none =
+    rw (unfired-after changes c (none 0 (omega arith)), same-map changes numbers (λ k h. none (suc k) (omega arith))) refl
+
+unfired-map : (changes : List Watched) (numbers : List (Option Connected)) → fired_numbers changes numbers ≡ [] → map (after_firing changes) numbers ≡ numbers
+unfired-map changes numbers none = same-map changes numbers (unfired changes numbers (length numbers) none)
+
+pub empty : (xs : List ℕ) → eqb (length xs) 0 ≡ true → xs ≡ []
+empty [] h = refl
+empty (x ∷ xs) h = let none : length (x ∷ xs) ≡ 0 = eqb-true (length (x ∷ xs)) 0 h in absurd (omega (arith, none))
+
+pub unfired-parts : (changes : List Watched) (t : TaskData) → length t.queue ≤ 1_024 → fired_numbers changes t.numbers ≡ [] → t ≡ after_changes changes t
+unfired-parts changes t room none =
+    let queue : take 1_024 (t.queue ++ []) ≡ t.queue = ap (take 1_024) (append-nil t.queue) ∙ take_all 1_024 t.queue room in
+    let calm : nat_lt 1_024 (length t.queue + 0) ≡ false = grind (arith, nat_tests) in
+    let flood : (t.flood || false) ≡ t.flood = or_false t.flood in
+    rw (none, unfired-map changes t.numbers none, queue, calm, flood) refl
+  where
+    or_false : (b : Bool) → (b || false) ≡ b
+    or_false true = refl
+    or_false false = refl

@@ -138,6 +138,9 @@ impl TaskTraps {
         ensures { self.new ≡ after_changes changes.now self.old }
     {
         let fired = fired_numbers(&self.numbers, changes);
+        if fired.is_empty() {
+            return;
+        }
         self.flood |= enqueue(&mut self.queue, fired.as_slice());
         end_fired(&mut self.numbers, changes);
     }

@@ -41,7 +41,7 @@ use Rattle.rapid_meaning.specs.Signals.{has_value, when_written, write_signal}
 use Rattle.rapid_meaning.specs.Values.{bit_in, mark_in, num_in, shape_in, target_in, text_in, tool_speed_in, truth_in}
 use Rattle.joint_clip.specs.Shapes.{made_shape}
 use Rattle.joint_clip.specs.declared.shape_fault.ShapeFault.{ShapeFault}
-use Rattle.rapid_meaning.specs.Zones.{fault_of, asks_of_zone, define, define_home, defined, home_high, home_low, on_axes, position_or_fault, shape_at, shaped, supervise, when_numbered, when_zoned}
+use Rattle.rapid_meaning.specs.Zones.{fault_of, asks_of_zone, define, define_home, defined, home_high, home_low, on_axes, position_or_fault, shape_at, shaped, supervise, tie, when_numbered, when_zoned}
 use Rattle.rapid_model.specs.Truths.{same_truth}
 use Rattle.rapid_meaning.proofs.Wholes.{whole_within}
 use Rattle.rapid_meaning.proofs.TaskSets.{positive, with_task_below}
@@ -281,7 +281,7 @@ defined_safe : (s : Scene) (o : Option Shape) → Safe s Anything (defined o)
 defined_safe s None = safe_fault {A = Shape} s Anything faults.ZoneShape
 defined_safe s (Some shape) = safe_any s shape
 
-shape_safe : (s : Scene) (x : Datum) → IsTrue (is_datum_of sorts.ShapeData x) → Safe s Anything (shape_in x)
+pub shape_safe : (s : Scene) (x : Datum) → IsTrue (is_datum_of sorts.ShapeData x) → Safe s Anything (shape_in x)
 shape_safe s x is = let f : (o : Option Shape) × (x ≡ datums.Shape o) = shape_form x is in subst (λ (y : Datum). Safe s Anything (shape_in y)) (sym f.1) (safe_any s f.0)
 
 pub shape_at_safe : (s : Scene) (q : Lvalue) → IsThere s false q sorts.ShapeData → Safe s Anything (shape_at q)
@@ -303,6 +303,21 @@ pub supervise_safe : (s : Scene) (q : Lvalue) (sort : Sort) (old : ℕ) (tempora
     → Safe s Anything (supervise q old temporary shape)
 supervise_safe s q sort old temporary shape arm marked is =
     safe_asks s Anything (requests.ZoneSet old temporary shape) (when_numbered q) (record { no_rise = refl; no_hold = refl; no_leave = refl; no_end = refl }) (λ d. arm) (numbered_answered s q sort old temporary shape marked is)
+
+tie_answered : (s : Scene) (q : Lvalue) (sort : Sort) (old : ℕ) (temporary : Bool) (shape : Shape) (signal : ℕ) (value : Bool) → IsTrue (is_marked sort) → IsThere s true q sort
+    → Answered s Anything (requests.ZoneTie old temporary shape signal value) (when_numbered q)
+tie_answered s q sort old temporary shape signal value marked is trapped (answers.Number number) fits = (refl, store_safe s q sort (datums.Mark number) is (marked_zone sort number marked))
+tie_answered s q sort old temporary shape signal value marked is trapped answers.ZoneUsed fits = (refl, safe_fault {A = ⊤} s Anything faults.ZoneUsed)
+tie_answered s q sort old temporary shape signal value marked is trapped answers.ZoneFull fits = (refl, safe_fault {A = ⊤} s Anything faults.ZoneFull)
+tie_answered s q sort old temporary shape signal value marked is trapped answers.Tied fits = (refl, safe_fault {A = ⊤} s Anything faults.TiedOutput)
+tie_answered s q sort old temporary shape signal value marked is trapped a fits = absurd cc
+
+pub tie_safe : (s : Scene) (q : Lvalue) (sort : Sort) (old : ℕ) (temporary : Bool) (held : Option Shape) (signal : ℕ) (value : Bool) → IsTrue (has_arm s.c) → signal < s.c.signals → IsTrue (is_marked sort)
+    → IsThere s true q sort → Safe s Anything (tie q old temporary held signal value)
+tie_safe s q sort old temporary held signal value arm few marked is =
+    safe_then s Anything Anything (defined held) (λ shape. Asks (requests.ZoneTie old temporary shape signal value) (when_numbered q)) (defined_safe s held)
+    (λ shape _. safe_asks s Anything (requests.ZoneTie old temporary shape signal value) (when_numbered q) (record { no_rise = refl; no_hold = refl; no_leave = refl; no_end = refl }) (λ d. (arm, few))
+    (tie_answered s q sort old temporary shape signal value marked is))
 
 pub zone_off_safe : (s : Scene) (zone : ℕ) → IsTrue (has_arm s.c) → Safe s Anything (asks_of_zone (requests.ZoneOff zone))
 zone_off_safe s zone arm = safe_asks s Anything (requests.ZoneOff zone) when_zoned (record { no_rise = refl; no_hold = refl; no_leave = refl; no_end = refl }) (λ d. arm) answered

@@ -21,10 +21,10 @@ use Rattle.rapid_meaning.specs.Instructions.{aimed, bit, has, instructed, num, r
 use Rattle.rapid_meaning.specs.Interrupts.{asks_of_number, number_at, order, pers_at}
 use Rattle.rapid_meaning.specs.Meetings.{arrive, tasks_in}
 use Rattle.rapid_meaning.specs.Moves.{aim, still}
-use Rattle.rapid_meaning.specs.Places.{read_value, store, test_and_set, write_value}
+use Rattle.rapid_meaning.specs.Places.{load, read_value, store, test_and_set, write_value}
 use Rattle.rapid_meaning.specs.Signals.{has_value, write_signal}
-use Rattle.rapid_meaning.specs.Values.{in_range, num_in, tool_speed_in, whole}
-use Rattle.rapid_meaning.specs.Zones.{asks_of_zone, define, define_home, shape_at, supervise}
+use Rattle.rapid_meaning.specs.Values.{in_range, num_in, shape_in, tool_speed_in, whole}
+use Rattle.rapid_meaning.specs.Zones.{asks_of_zone, define, define_home, shape_at, supervise, tie}
 use Rattle.rapid_meaning.proofs.Begins.{Anything}
 use Rattle.rapid_meaning.proofs.Moves.{IsOther}
 use Rattle.tree_typing.specs.Expressions.{IsArray, IsExpr, IsPlace, is_zone}
@@ -32,10 +32,10 @@ use Rattle.tree_typing.specs.Instructions.{AreChosen, AreNeeded, AreOptions, IsO
 use Rattle.tree_typing.specs.Kinds.{kinds_of}
 use Rattle.tree_typing.specs.Setting.{has_arm}
 use Rattle.tree_typing.specs.States.{IsPers}
-use Rattle.tree_typing.specs.WellTyped.{is_marked}
-use Rattle.tree_typing.proofs.Acts.{IsPersAt, aim_safe, arrive_safe, array_place, bit_expr, define_safe, delete_safe, disable_safe, enable_safe, home_safe, name_safe, num_expr, number_safe, order_safe, pers_safe, say_safe, shape_at_safe, sleep_safe, speed_safe, still_safe, supervise_safe, target_expr, tasks_safe, text_expr, then_ready, truth_expr, value_safe, watch_safe, write_safe, zone_free_safe, zone_off_safe, zone_on_safe}
+use Rattle.tree_typing.specs.WellTyped.{is_datum_of, is_marked}
+use Rattle.tree_typing.proofs.Acts.{IsPersAt, aim_safe, arrive_safe, array_place, bit_expr, define_safe, delete_safe, disable_safe, enable_safe, home_safe, name_safe, num_expr, number_safe, order_safe, pers_safe, say_safe, shape_at_safe, shape_safe, sleep_safe, speed_safe, still_safe, supervise_safe, target_expr, tasks_safe, text_expr, then_ready, tie_safe, truth_expr, value_safe, watch_safe, write_safe, zone_free_safe, zone_off_safe, zone_on_safe}
 use Rattle.tree_typing.proofs.Expressions.{HasSort, expr_safe, place_safe}
-use Rattle.tree_typing.proofs.Loads.{read_safe, store_safe, test_safe}
+use Rattle.tree_typing.proofs.Loads.{load_safe, read_safe, store_safe, test_safe}
 use Rattle.tree_typing.proofs.Operators.{range_safe}
 use Rattle.tree_typing.proofs.Places.{Inside, IsRooted, IsThere, num_safe, scene}
 use Rattle.tree_typing.proofs.Safe.{Safe, safe_any, safe_or, safe_then}
@@ -87,6 +87,22 @@ zone_marked : (sort : Sort) → IsTrue (is_zone sort) → IsTrue (is_marked sort
 zone_marked sorts.WzTemporary is = refl
 zone_marked sorts.WzStationary is = refl
 zone_marked sort is = absurd cc
+
+-- what WZDOSet does once its zone is found
+abbrev ties : (i : Inside) → TypedPlace → ℕ → TypedExpr → Bool → Lvalue → ℕ → Doing Bool
+ties i shape signal e temporary q old =
+    place i.c.tree i.routine shape >>= λ p. load p >>= λ v. shape_in v >>= λ held. bit i.c.tree i.routine e >>= λ b. tie q old temporary held signal b >> ready
+
+ties_safe : (i : Inside) (shape : TypedPlace) (signal : ℕ) (e : TypedExpr) (temporary : Bool) (q : Lvalue) (sort : Sort) (old : ℕ) → IsTrue (has_arm i.c) → signal < i.c.signals → IsTrue (is_zone sort)
+    → IsPlace i.c (kinds_of i.routine) false shape sorts.ShapeData → IsExpr i.c (kinds_of i.routine) e sorts.Num → IsThere (scene i) true q sort
+    → Safe (scene i) Anything (ties i shape signal e temporary q old)
+ties_safe i shape signal e temporary q sort old arm few zoned is ie at =
+    at_place i false shape sorts.ShapeData (λ p. load p >>= λ v. shape_in v >>= λ held. bit i.c.tree i.routine e >>= λ b. tie q old temporary held signal b >> ready) is
+    (λ p there. safe_then (scene i) (λ x. IsTrue (is_datum_of sorts.ShapeData x)) Anything (load p) (λ v. shape_in v >>= λ held. bit i.c.tree i.routine e >>= λ b. tie q old temporary held signal b >> ready)
+    (load_safe (scene i) false p sorts.ShapeData there)
+    (λ v typed. on i (shape_in v) (λ held. bit i.c.tree i.routine e >>= λ b. tie q old temporary held signal b >> ready) (shape_safe (scene i) v typed)
+    (λ held. on i (bit i.c.tree i.routine e) (λ b. tie q old temporary held signal b >> ready) (bit_expr i e ie)
+    (λ b. then_ready (scene i) (tie q old temporary held signal b) (tie_safe (scene i) q sort old temporary held signal b arm few (zone_marked sort zoned) at)))))
 
 -- MoveAbsJ before its first setpoint
 abbrev Aims : Inside → List TypedArg → Type 0
@@ -275,7 +291,15 @@ instructed_safe i instructions.WZLimSup args given other arm are options chosen 
     (λ old. at_place i false shape sorts.ShapeData (λ p. shape_at p >>= λ s. supervise q old (has (codes "Temp") given) s >> ready) is
     (λ p there. on i (shape_at p) (λ s. supervise q old (has (codes "Temp") given) s >> ready) (shape_at_safe (scene i) p there)
     (λ s. then_ready (scene i) (supervise q old (has (codes "Temp") given) s) (supervise_safe (scene i) q sort old (has (codes "Temp") given) s arm (zone_marked sort zoned) at)))))) b ib) a ia) args are
-instructed_safe i instructions.WZDOSet args given other arm are options chosen = absurd chosen
+instructed_safe i instructions.WZDOSet args given other arm are options chosen =
+    four_needed i.c (kinds_of i.routine) (Does i instructions.WZDOSet given) needs.WorldZone (needs.Place sorts.ShapeData) (needs.Signal true) (needs.Value sorts.Num)
+    (λ a b x y ia ib ix iy. zone_needed i.c (kinds_of i.routine) (λ z. Does i instructions.WZDOSet given (z ∷ b ∷ x ∷ y ∷ []))
+    (λ zone sort zoned iz. place_needed i.c (kinds_of i.routine) (λ z. Does i instructions.WZDOSet given (Lent zone ∷ z ∷ x ∷ y ∷ [])) sorts.ShapeData
+    (λ shape is. signal_needed i.c (kinds_of i.routine) (λ z. Does i instructions.WZDOSet given (Lent zone ∷ Lent shape ∷ z ∷ y ∷ [])) true
+    (λ signal few. value_needed i.c (kinds_of i.routine) (λ z. Does i instructions.WZDOSet given (Lent zone ∷ Lent shape ∷ OfSignal signal ∷ z ∷ [])) sorts.Num
+    (λ e ie. at_place i true zone sort (λ q. number_at q >>= λ old. ties i shape signal e (has (codes "Temp") given) q old) iz
+    (λ q at. on i (number_at q) (λ old. ties i shape signal e (has (codes "Temp") given) q old) (number_safe (scene i) true q sort (zone_marked sort zoned) at)
+    (λ old. ties_safe i shape signal e (has (codes "Temp") given) q sort old arm few zoned is ie at))) y iy) x ix) b ib) a ia) args are
 instructed_safe i instructions.WZDisable args given other arm are options chosen =
     one_needed i.c (kinds_of i.routine) (Does i instructions.WZDisable given) (needs.Var sorts.WzTemporary)
     (λ a ia. var_needed i.c (kinds_of i.routine) (λ z. Does i instructions.WZDisable given (z ∷ [])) sorts.WzTemporary

@@ -89,7 +89,8 @@ suits cell number row mine c d (requests.Setpoint to) signals arm axes numbered 
 suits cell number row mine c d (requests.Order n on single) signals arm axes numbered trapped asked = watches cell number c on signals numbered asked
 suits cell number row mine c d requests.Leave signals arm axes numbered trapped asked = trapped ∙ asked
 suits cell number row mine c d (requests.ZoneSet old temporary shape) signals arm axes numbered trapped asked = sym arm ∙ asked
-suits cell number row mine c d (requests.ZoneTie old temporary shape signal value) signals arm axes numbered trapped asked = absurd asked
+suits cell number row mine c d (requests.ZoneTie old temporary shape signal value) signals arm axes numbered trapped asked =
+    and_from (is_some row.arm) (nat_lt signal (length cell.signals)) (sym arm ∙ asked.0) (lt-ltb signal (length cell.signals) (omega (arith, asked.1, signals)))
 suits cell number row mine c d (requests.ZoneOn zone) signals arm axes numbered trapped asked = sym arm ∙ asked
 suits cell number row mine c d (requests.ZoneOff zone) signals arm axes numbered trapped asked = sym arm ∙ asked
 suits cell number row mine c d (requests.ZoneFree zone) signals arm axes numbered trapped asked = sym arm ∙ asked

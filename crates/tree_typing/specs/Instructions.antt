@@ -39,7 +39,7 @@ abbrev pub AreChosen : Choice → List TypedArg → Type 0
 AreChosen choices.Any given = ⊤
 AreChosen choices.OneAtMost given = length given ≤ 1
 AreChosen choices.JustOne given = length given ≡ 1
-AreChosen choices.Never given = ⊥
+AreChosen choices.InsideAndOne given = length given ≡ 2
 
 -- an instruction has what it needs, and an arm if it needs one
 pub record IsInstruction (c : Setting) (kinds : List Kind) (instruction : Instruction) (args : TypedArgs) : Type 0 where

@@ -39,7 +39,7 @@ static FUNCTIONS: [(Function, &[Need], Sort, bool); 6] = [
 
 /// Instructions with their arguments, how many options they have and how many one call may have, and whether they need
 /// an arm.
-static INSTRUCTIONS: [(Instruction, &[Need], usize, Choice, bool); 9] = [
+static INSTRUCTIONS: [(Instruction, &[Need], usize, Choice, bool); 10] = [
     (
         Instruction::MoveAbsJ,
         &[
@@ -96,6 +96,18 @@ static INSTRUCTIONS: [(Instruction, &[Need], usize, Choice, bool); 9] = [
         true,
     ),
     (
+        Instruction::WZDOSet,
+        &[
+            Need::WorldZone,
+            Need::Place(Sort::ShapeData),
+            Need::Signal { output: true },
+            Need::Value(Sort::Num),
+        ],
+        3,
+        Choice::InsideAndOne,
+        true,
+    ),
+    (
         Instruction::WZFree,
         &[Need::Var(Sort::WzTemporary)],
         0,
@@ -105,7 +117,7 @@ static INSTRUCTIONS: [(Instruction, &[Need], usize, Choice, bool); 9] = [
 ];
 
 /// Names with an instruction, and what its option of that name takes, if it has one.
-static NAMES: [(Instruction, &[u8], Option<Option<Need>>); 9] = [
+static NAMES: [(Instruction, &[u8], Option<Option<Need>>); 11] = [
     (Instruction::MoveAbsJ, b"noeoffs", Some(None)),
     (Instruction::MoveAbsJ, b"WOBJ", Some(Some(Need::WorkObject))),
     (
@@ -122,6 +134,8 @@ static NAMES: [(Instruction, &[u8], Option<Option<Need>>); 9] = [
     (Instruction::TPWrite, b"", None),
     (Instruction::WZHomeJointDef, b"outSIDE", Some(None)),
     (Instruction::WZLimSup, b"Inside", None),
+    (Instruction::WZDOSet, b"INSIDE", Some(None)),
+    (Instruction::WZDOSet, b"Before", None),
     (Instruction::ISleep, b"Single", None),
 ];
 

@@ -14,7 +14,7 @@ enum Meaning {
 }
 
 /// Names in lower and upper case, with what they stand for.
-static INSTRUCTIONS: [(&[u8], &[u8], Meaning); 30] = [
+static INSTRUCTIONS: [(&[u8], &[u8], Meaning); 31] = [
     (
         b"moveabsj",
         b"MOVEABSJ",
@@ -113,6 +113,11 @@ static INSTRUCTIONS: [(&[u8], &[u8], Meaning); 30] = [
         b"wzlimsup",
         b"WZLIMSUP",
         Meaning::Instruction(Instruction::WZLimSup),
+    ),
+    (
+        b"wzdoset",
+        b"WZDOSET",
+        Meaning::Instruction(Instruction::WZDOSet),
     ),
     (
         b"wzdisable",

@@ -1,3 +1,4 @@
 pub mod First
 pub mod Zones
+pub mod Outputs
 pub mod Touched

@@ -1,10 +1,13 @@
-ghost use Rattle.std.specs.Prelude.{◌≡◌, ◌<◌, ◌↔◌, None, replicate, slice_index_or, IfOk, IfSome, IsOk, IsTrue, OnOk, OnErr};
+ghost use Rattle.std.specs.Prelude.{◌≡◌, ◌<◌, ◌↔◌, None, Some, replicate, slice_index_or, IfOk, IfSome, IsOk, IsTrue, OnOk, OnErr};
+ghost use Rattle.std.specs.List.{list_any};
 ghost use Rattle.world_zones.specs.Zones.{given, is_temporary, own_shape, set_answer, switched, with_zone, zone_at};
 ghost use Rattle.world_zones.specs.First.{IsFirstIndex, Stops};
+ghost use Rattle.world_zones.specs.Outputs.{output_at, ties, unless_tied};
 
 use crate::no_zone::NoZone;
-use crate::own_zone::{OwnZone, free_index, own_shape, zone_at};
+use crate::own_zone::{OwnZone, free_index, output_of, own_shape, ties, zone_at};
 use crate::stopping::stops;
+use crate::tie_fault::TieFault;
 use crate::zone_fault::ZoneFault;
 use rapid_limits::MOST_ZONES;
 use rapid_num::{Joints, Shape};
@@ -59,6 +62,39 @@ impl ArmZones {
             }
             None => Err(ZoneFault::ZoneFull),
         }
+    }
+
+    /// Gives the arm this zone, unless its output is tied.
+    pub(crate) fn tie(&mut self, old: u8, tied: bool, zone: OwnZone) -> Result<u8, TieFault>
+        ensures answer { result ≡ unless_tied tied (set_answer self.old old) }
+        ensures ok { IfOk result (λ number. self.new ≡ with_zone self.old number (Some zone)) }
+        ensures err { OnErr result (self.new ≡ self.old) }
+    {
+        if zone_at(&self.zones, old).is_some() {
+            return Err(TieFault::ZoneUsed);
+        }
+        let Some(index) = free_index(&self.zones[..]) else {
+            return Err(TieFault::ZoneFull);
+        };
+        if tied {
+            return Err(TieFault::Tied);
+        }
+        self.zones[index] = Some(zone);
+        Ok(index as u8 + 1)
+    }
+
+    /// Whether a zone of the arm names the signal as its output.
+    pub(crate) fn ties(&self, signal: u32) -> bool
+        ensures { result ≡ list_any (ties signal) self.now }
+    {
+        self.zones.iter().any(|zone| ties(zone, signal))
+    }
+
+    /// The signal that the zone with this number sets while the arm is at a position, and the value that it gets.
+    pub(crate) fn output(&self, number: u8, at: &Joints) -> Option<(u32, bool)>
+        ensures { result ≡ output_at at.now (zone_at self.now number) }
+    {
+        output_of(&self.zones, number, at)
     }
 
     /// Switches a temporary zone on or off.

@@ -1,4 +1,4 @@
-//! The zones that watch the arms of a cell.
+//! The zones of a cell: those that watch its arms, and those that set its outputs.
 #![tactic(auto)]
 
 mod arm_zones;
@@ -7,6 +7,7 @@ mod no_zone;
 mod output;
 mod own_zone;
 mod stopping;
+mod tie_fault;
 mod zone_fault;
 mod zones;
 
@@ -14,5 +15,6 @@ pub use cell_zone::CellZone;
 pub use no_zone::NoZone;
 pub use output::Output;
 pub use own_zone::OwnZone;
+pub use tie_fault::TieFault;
 pub use zone_fault::ZoneFault;
 pub use zones::Zones;

@@ -1,13 +1,17 @@
 ghost use Rattle.std.specs.Prelude.{◌≡◌, ◌<◌, ◌≤◌, ◌↔◌, true, false, None, All, length, map, replicate, slice_get, IfOk, IsOk, IsTrue, IfSome, IfNone, OnOk, OnErr};
 ghost use Rattle.rapid_model.specs.declared.zone_name.ZoneName.{ZoneName as TheZoneName};
 ghost use Rattle.world_zones.specs.First.{IsFirstIndex, Stops};
+ghost use Rattle.world_zones.specs.Outputs.{is_tied, output_at, tie_answer, tying};
 ghost use Rattle.world_zones.specs.Touched.{IsFirstTouched, IsTouched};
 ghost use Rattle.world_zones.specs.Zones.{arm_at, before_all, given, is_temporary, no_zones, set_answer, shape_of_cell, switched, with_arm, with_zone, zone_at, zone_of};
 
 use crate::arm_zones::ArmZones;
 use crate::cell_zone::{CellZone, cell_shape};
 use crate::no_zone::NoZone;
+use crate::output::Output;
+use crate::own_zone::OwnZone;
 use crate::stopping::stops;
+use crate::tie_fault::TieFault;
 use crate::zone_fault::ZoneFault;
 use rapid_limits::MOST_CELL_ZONES;
 use rapid_model::{Cell, SignalValues, ZoneName, ZoneRow};
@@ -16,8 +20,8 @@ use std::alloc::{AllocError, Global};
 use std::marker::Model;
 
 /// The zones of a cell. Contracts see those of each task's arm, ten entries a task, and those of the cell in script
-/// order. A call changes only the zones of its own task's arm. Only `new` allocates (RAPID Instructions: WZLimSup,
-/// WZDisable, WZEnable, WZFree).
+/// order. A zone of an arm either stops it or sets an output. A call changes only the zones of its own task's arm. Only
+/// `new` allocates (RAPID Instructions: WZLimSup, WZDOSet, WZDisable, WZEnable, WZFree).
 #[derive(Debug, Drop)]
 pub struct Zones {
     arms: Vec<ArmZones>,
@@ -63,6 +67,50 @@ impl Zones {
         ensures err { OnErr result (self.new ≡ self.old) }
     {
         self.arms[task as usize].set(old, temporary, shape)
+    }
+
+    /// Gives the task's arm a zone that is on and sets a signal: to `value` while the arm is in the zone, otherwise to
+    /// the other value. The number is the least free one, 1 to 10: `ZoneUsed` exactly if the old number is a zone of
+    /// the arm, otherwise `ZoneFull` exactly if the arm has ten, otherwise `Tied` exactly if a zone of some arm already
+    /// sets the signal.
+    pub fn tie(
+        &mut self,
+        task: u32,
+        old: u8,
+        temporary: bool,
+        shape: &Shape,
+        signal: u32,
+        value: bool,
+    ) -> Result<u8, TieFault>
+        requires task { task < length self.old.arms }
+        ensures answer { result ≡ tie_answer self.old task old signal }
+        ensures ok { IfOk result (λ number. self.new ≡ with_arm self.old task (with_zone (arm_at self.old task) number (tying temporary shape.now (record { signal = signal; value = value })))) }
+        ensures err { OnErr result (self.new ≡ self.old) }
+    {
+        let tied = self.tied(signal);
+        let zone = OwnZone {
+            temporary,
+            on: true,
+            shape: *shape,
+            output: Some(Output { signal, value }),
+        };
+        self.arms[task as usize].tie(old, tied, zone)
+    }
+
+    /// Whether a zone of some arm sets the signal. It does so until it is freed, whether it is on or off.
+    pub fn tied(&self, signal: u32) -> bool
+        ensures { result ≡ is_tied self.now signal }
+    {
+        self.arms.iter().any(|arm| arm.ties(signal))
+    }
+
+    /// The signal that a zone of the task's arm sets while the arm is at a position, and the value that it gets. None
+    /// exactly if the arm has no zone with that number that is on and sets a signal.
+    pub fn output(&self, task: u32, zone: u8, at: &Joints) -> Option<(u32, bool)>
+        requires task { task < length self.now.arms }
+        ensures { result ≡ output_at at.now (zone_at (arm_at self.now task) zone) }
+    {
+        self.arms[task as usize].output(zone, at)
     }
 
     /// Switches a temporary zone off: `NoZone` exactly if the arm has no temporary zone with that number.

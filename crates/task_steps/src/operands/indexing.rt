@@ -37,9 +37,10 @@ impl Task {
         ensures { result ≡ option_map (λ held. at + count) (option_and_then (λ f. slice_get f.values (at + count)) (frame_at self.now.data'.frames frame)) }
     {
         let at = at as usize + count as usize;
-        match self.frames.get(frame as usize, at) {
-            Some(_) => Some(at as u32),
-            None => None,
+        if self.frames.has(frame as usize, at) {
+            Some(at as u32)
+        } else {
+            None
         }
     }
 

@@ -6,6 +6,7 @@ pub(crate) mod indexing;
 pub(crate) mod numbers;
 pub(crate) mod owning;
 pub(crate) mod parts;
+pub(crate) mod persistents;
 pub(crate) mod pops;
 pub(crate) mod pushing;
 pub(crate) mod reading;

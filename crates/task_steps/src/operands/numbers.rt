@@ -28,7 +28,7 @@ impl Task {
     {
         match root {
             Root::Slot(slot) => self.slots.get(slot as usize)?.num(),
-            Root::Frame { frame, at } => self.frames.get(frame as usize, at as usize)?.num(),
+            Root::Frame { frame, at } => self.frames.num(frame as usize, at as usize),
             Root::Pers { .. } => None,
         }
     }

@@ -22,12 +22,6 @@ fn value_in(held: Held) -> Option<Value>
     held.into_value()
 }
 
-fn place_in(held: &Held) -> Option<Lvalue>
-    ensures { (rest : List Datum) (next : Lvalue → List Datum → Doing Conf) → on_place (held.now ∷ rest) next ≡ popped result rest next }
-{
-    held.place()
-}
-
 fn mark_in(held: &Held) -> Option<u8>
     ensures { (rest : List Datum) (next : ℕ → List Datum → Doing Conf) → on_mark (held.now ∷ rest) next ≡ popped result rest next }
 {
@@ -74,8 +68,9 @@ impl Task {
         ensures on { (next : Lvalue → List Datum → Doing Conf) → on_place self.old.conf.stack next ≡ popped result self.new.conf.stack next }
         ensures rest { self.new ≡ with_stack self.new.conf.stack self.old }
     {
-        let held = self.pop()?;
-        place_in(&held)
+        let place = self.top_place()?;
+        self.drop_operand();
+        Some(place)
     }
 
     /// The number of an interrupt or of a zone.

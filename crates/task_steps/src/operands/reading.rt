@@ -24,10 +24,7 @@ impl Task {
     fn operand(&self, above: usize) -> Option<Held>
         ensures { result ≡ slice_get self.now.conf.stack above }
     {
-        match self.operands.peek(above) {
-            Some(held) => Some(held.copy()),
-            None => None,
-        }
+        self.operands.peek(above)
     }
 
     /// Pushes a copy of the operand on top.
@@ -85,10 +82,7 @@ impl Task {
         if count == 0 {
             return None;
         }
-        match self.frames.get(count - 1, at as usize) {
-            Some(held) => held.place(),
-            None => None,
-        }
+        self.frames.place(count - 1, at as usize)
     }
 
     /// Pushes the place of a datum of the frame.
@@ -99,7 +93,7 @@ impl Task {
         ensures goes { Goes code.now (act (here_of code.now self.old.conf) (ops.Local at)) self.old.data' result self.new }
     {
         let place = self.own_place(at);
-        self.put(code, Held::of_place(place))
+        self.put_place(code, place)
     }
 
     /// Pushes the place that a reference parameter stands for.

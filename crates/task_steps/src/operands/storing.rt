@@ -76,9 +76,10 @@ impl Task {
     {
         match place.root {
             Root::Slot(slot) => part_of(place.part, self.slots.get(slot as usize)),
-            Root::Frame { frame, at } => {
-                part_of(place.part, self.frames.get(frame as usize, at as usize))
-            }
+            Root::Frame { frame, at } => match self.frames.get(frame as usize, at as usize) {
+                Some(held) => part_in(place.part, &held),
+                None => None,
+            },
             Root::Pers { .. } => None,
         }
     }
@@ -139,7 +140,7 @@ impl Task {
         ensures data { option_map (λ put. self.new.data') result ≡ option_map (λ x. put_at (roots.Frame frame at) x self.old.data') (option_and_then (put_in name new.now) (datum_at (roots.Frame frame at) self.old.data')) }
     {
         let old = self.frames.get(frame as usize, at as usize)?;
-        let held = put_in(name, new, old)?;
+        let held = put_in(name, new, &old)?;
         self.frames.put(frame as usize, at as usize, held);
         Some(())
     }
@@ -193,10 +194,7 @@ impl Task {
                 self.set_top_num(number);
                 Some(Way::Next)
             }
-            None => {
-                let done = self.load_any();
-                self.settle(code, done)
-            }
+            None => self.load_other(code),
         }
     }
 
@@ -227,15 +225,12 @@ impl Task {
                 self.drop_operand();
                 Some(Way::Next)
             }
-            None => {
-                let done = self.store_any();
-                self.settle(code, done)
-            }
+            None => self.store_other(code),
         }
     }
 
     /// Pushes the datum at the place on top.
-    fn load_any(&mut self) -> Option<Done>
+    pub(crate) fn load_any(&mut self) -> Option<Done>
         ensures rest { self.new ≡ with_stack self.new.conf.stack self.old }
         ensures turns { (code : CodeData) → Turns code (act (here_of code self.old.conf) ops.Load) self.old.data' result self.new }
     {
@@ -244,7 +239,7 @@ impl Task {
     }
 
     /// Stores the datum on top at the place below it.
-    fn store_any(&mut self) -> Option<Done>
+    pub(crate) fn store_any(&mut self) -> Option<Done>
         ensures phase { self.new.phase ≡ self.old.phase }
         ensures room { self.new.room ≡ self.old.room }
         ensures turns { (code : CodeData) → Turns code (act (here_of code self.old.conf) ops.Store) self.old.data' result self.new }

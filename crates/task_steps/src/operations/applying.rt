@@ -1,6 +1,7 @@
 //! Operators with two operands, applied in place.
 
-ghost use Rattle.std.specs.Prelude.{◌≡◌};
+ghost use Rattle.std.specs.Prelude.{◌≡◌, Some, slice_get};
+ghost use Rattle.typed_trees.specs.declared.datum.Datum.TheVariants.{Plain};
 ghost use Rattle.stack_code.specs.CodeData.{CodeData};
 ghost use Rattle.stack_code.specs.Steps.{act};
 ghost use Rattle.stack_code.specs.declared.op.Op.TheVariants as ops;
@@ -9,7 +10,7 @@ ghost use Rattle.task_steps.specs.Doing.{gone, here_of};
 
 use crate::steps::way::Way;
 use crate::task::Task;
-use rapid_model::{Fate, Fault, Operator};
+use rapid_model::{Fate, Fault, Operator, Value};
 use rapid_values::{Applied, apply};
 
 impl Task {
@@ -18,8 +19,27 @@ impl Task {
         ensures on { (code : CodeData) → act (here_of code self.old.conf) (ops.Binary operator) ≡ gone code result self.new }
         ensures rest { self.new ≡ with_stack self.new.conf.stack self.old }
     {
-        let right = self.value_at(0)?;
-        let left = self.value_at(1)?;
+        match (self.num_at(1), self.num_at(0)) {
+            (Some(left), Some(right)) => self.combine(
+                operator,
+                &Value::Num(left),
+                &Value::Num(right),
+            ),
+            _ => {
+                let right = self.value_at(0)?;
+                let left = self.value_at(1)?;
+                self.combine(operator, &left, &right)
+            }
+        }
+    }
+
+    /// An operator with two operands, which are these values.
+    fn combine(&mut self, operator: Operator, left: &Value, right: &Value) -> Option<Way>
+        requires right { slice_get self.old.conf.stack 0 ≡ Some (Plain right.now) }
+        requires left { slice_get self.old.conf.stack 1 ≡ Some (Plain left.now) }
+        ensures on { (code : CodeData) → act (here_of code self.old.conf) (ops.Binary operator) ≡ gone code result self.new }
+        ensures rest { self.new ≡ with_stack self.new.conf.stack self.old }
+    {
         match apply(operator, left, right) {
             Applied::Gives(value) => {
                 self.drop_operand();

@@ -28,7 +28,7 @@ impl Task {
         }
     }
 
-    /// A zone is supervised: its number is stored.
+    /// A zone was given: its number is stored.
     pub(crate) fn supervised(&mut self, place: Lvalue, answer: Answer) -> Option<Done>
         ensures phase { self.new.phase ≡ self.old.phase }
         ensures room { self.new.room ≡ self.old.room }
@@ -38,6 +38,7 @@ impl Task {
             Answer::Number(number) => self.store_at(place, &Held::of_mark(number)),
             Answer::ZoneUsed => Some(Done::End(Fate::Fault(Fault::ZoneUsed))),
             Answer::ZoneFull => Some(Done::End(Fate::Fault(Fault::ZoneFull))),
+            Answer::Tied => Some(Done::End(Fate::Fault(Fault::TiedOutput))),
             _ => None,
         }
     }

@@ -1,10 +1,12 @@
 //! FOR (RAPID Kernel, FOR). Its variable, last value and step are three data of the frame.
 
-ghost use Rattle.std.specs.Prelude.{◌≡◌, ℤ, Option, slice_get};
+ghost use Rattle.std.specs.Prelude.{◌≡◌, ℤ, Option, is_some, slice_get};
+ghost use Rattle.std.specs.Option.{option_and_then};
 ghost use Rattle.typed_trees.specs.declared.datum.Datum.{Datum};
+ghost use Rattle.machine_stacks.specs.Forms.{as_value};
+ghost use Rattle.rapid_meaning.specs.Data.{frame_at};
 ghost use Rattle.rapid_meaning.specs.Doings.{Doing, Raises, after, or_misfit};
 ghost use Rattle.rapid_meaning.specs.Loops.{has_passed};
-ghost use Rattle.rapid_meaning.specs.Values.{num_in, value_in};
 ghost use Rattle.stack_code.specs.CodeData.{CodeData};
 ghost use Rattle.stack_code.specs.Confs.{Conf};
 ghost use Rattle.stack_code.specs.Steps.{act, counter_at, jumps, past_turn, set_counter_at, stepped};
@@ -15,8 +17,6 @@ ghost use Rattle.task_steps.specs.Seen.{Seen};
 
 use crate::steps::way::Way;
 use crate::task::Task;
-use function_values::num_of;
-use machine_stacks::Held;
 use rapid_num::Num;
 use stack_code::Op;
 use task_code::Code;
@@ -29,16 +29,6 @@ fn has_passed(variable: Num, last: Num, step: Num) -> bool
         variable.thousandths() < last.thousandths()
     } else {
         last.thousandths() < variable.thousandths()
-    }
-}
-
-/// The num that a datum is.
-fn num_held(held: &Held) -> Option<Num>
-    ensures { after (value_in held.now) num_in Raises ≡ or_misfit result }
-{
-    match held.value() {
-        Some(value) => num_of(value),
-        None => None,
     }
 }
 
@@ -61,10 +51,7 @@ impl Task {
         if count == 0 {
             return None;
         }
-        match self.frames.get(count - 1, at) {
-            Some(held) => num_held(held),
-            None => None,
-        }
+        self.frames.num(count - 1, at)
     }
 
     /// Tests whether the FOR whose variable is there has passed its last value, and then jumps.
@@ -118,9 +105,23 @@ impl Task {
         if count == 0 {
             return None;
         }
-        let old = self.frames.get(count - 1, at as usize)?;
-        let _value = old.value()?;
+        if !self.has_value(count - 1, at as usize) {
+            return None;
+        }
         self.frames.put_num(count - 1, at as usize, next);
         Some(Way::Jump(to))
+    }
+
+    /// Whether a value is at a place of a frame.
+    fn has_value(&self, frame: usize, at: usize) -> bool
+        ensures { result ≡ is_some (option_and_then as_value (option_and_then (λ f. slice_get f.values at) (frame_at self.now.data'.frames frame))) }
+    {
+        if self.frames.num(frame, at).is_some() {
+            return true;
+        }
+        match self.frames.get(frame, at) {
+            Some(held) => held.value().is_some(),
+            None => false,
+        }
     }
 }

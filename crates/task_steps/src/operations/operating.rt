@@ -59,6 +59,7 @@ impl Task {
             Op::Irq(change) => self.change_interrupt(*change),
             Op::Shape(inside, home) => self.define(loaded.code(), *inside, *home),
             Op::ZoneSet(temporary) => self.zone_set(*temporary),
+            Op::ZoneTie(temporary, signal) => self.zone_tie(*temporary, *signal),
             Op::Zone(change) => self.change_zone(*change),
             Op::Say(tail) => self.tell(*tail),
             _ => unreachable!(),

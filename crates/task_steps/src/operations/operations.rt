@@ -20,7 +20,7 @@ use crate::operands::pushing::{narrowed, of_one, of_two};
 use crate::operations::combining::{dropped, gone_on, jumped, minus, not, raised};
 use crate::requests::requests::{
     aimed, connected, freed, known, ordered_on_pers, ordered_on_signal, said, said_num, said_truth,
-    signal_written, supervised, zoned,
+    signal_written, supervised, tied, zoned,
 };
 use crate::steps::done::Done;
 use crate::steps::way::Way;
@@ -197,7 +197,19 @@ impl Task {
         supervised(place, old, temporary, shape)
     }
 
-    /// Supervises a zone again.
+    /// Ties a signal to a zone.
+    pub(crate) fn zone_tie(&mut self, temporary: bool, signal: u32) -> Option<Done>
+        ensures on { (code : CodeData) → act (here_of code self.old.conf) (ops.ZoneTie temporary signal) ≡ came (here_of code self.new.conf) result }
+        ensures rest { self.new ≡ with_stack self.new.conf.stack self.old }
+    {
+        let value = self.pop_value()?;
+        let shape = self.pop_shape()?;
+        let old = self.pop_mark()?;
+        let place = self.pop_place()?;
+        tied(place, old, temporary, shape, signal, &value)
+    }
+
+    /// Switches a zone on.
     pub(crate) fn zone_on(&mut self) -> Option<Done>
         ensures on { (code : CodeData) → act (here_of code self.old.conf) (ops.Zone zones.On) ≡ came (here_of code self.new.conf) result }
         ensures rest { self.new ≡ with_stack self.new.conf.stack self.old }
@@ -207,7 +219,7 @@ impl Task {
         zoned(Request::ZoneOn { zone })
     }
 
-    /// Supervises a zone no longer.
+    /// Switches a zone off.
     pub(crate) fn zone_off(&mut self) -> Option<Done>
         ensures on { (code : CodeData) → act (here_of code self.old.conf) (ops.Zone zones.Off) ≡ came (here_of code self.new.conf) result }
         ensures rest { self.new ≡ with_stack self.new.conf.stack self.old }

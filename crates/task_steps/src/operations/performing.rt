@@ -14,7 +14,6 @@ use crate::operands::pushing::whole_at;
 use crate::routines::loaded::LoadedCode;
 use crate::steps::way::Way;
 use crate::task::Task;
-use machine_stacks::Held;
 use stack_code::Op;
 use typed_trees::Root;
 
@@ -32,8 +31,8 @@ impl Task {
     {
         let code = loaded.code();
         match op {
-            Op::Push(datum) => self.put(code, Held::of_value(datum.kept_value())),
-            Op::Slot(slot) => self.put(code, Held::of_place(whole_at(Root::Slot(*slot)))),
+            Op::Push(datum) => self.put_value(code, datum.kept_value()),
+            Op::Slot(slot) => self.put_place(code, whole_at(Root::Slot(*slot))),
             Op::Local(at) => self.local(code, *at),
             Op::Load => self.load(code),
             Op::Store => self.store(code),

@@ -2,6 +2,7 @@
 
 ghost use Rattle.std.specs.Prelude.{◌≡◌, ◌≢◌, ◌+◌, ◌<◌, ◌∷◌, length, Some};
 ghost use Rattle.task_code.specs.Leads.{Runs};
+ghost use Rattle.typed_trees.specs.declared.datum.Datum.TheVariants.{Place, Plain};
 ghost use Rattle.stack_code.specs.Steps.{to_next};
 ghost use Rattle.task_steps.specs.Alike.{Follows, Goes, with_stack};
 ghost use Rattle.task_steps.specs.Doing.{came, gone, here_of};
@@ -15,8 +16,9 @@ use crate::steps::stage::Stage;
 use crate::steps::way::Way;
 use crate::task::Task;
 use machine_stacks::Held;
-use rapid_model::{Fate, Request};
+use rapid_model::{Fate, Request, Value};
 use task_code::Code;
+use typed_trees::Lvalue;
 
 impl Task {
     /// Goes on with the outcome of an operation.
@@ -72,7 +74,7 @@ impl Task {
         keep_code(code);
         match way {
             Some(Way::Next) => self.go_next(code),
-            Some(Way::Jump(to)) => self.pc = to,
+            Some(Way::Jump(to)) => self.jump(to),
             Some(Way::Stay) => {}
             Some(Way::Raise(error)) => {
                 let place = self.pc;
@@ -93,12 +95,19 @@ impl Task {
     }
 
     /// Goes on to the next operation.
-    fn go_next(&mut self, code: &Code)
+    pub(crate) fn go_next(&mut self, code: &Code)
         requires runs { Runs code.now (to_next (here_of code.now self.old.conf) self.old.conf.stack) self.old.data' }
         ensures { self.new ≡ record self.old { conf = record self.old.conf { pc = self.old.conf.pc + 1 } } }
     {
         keep_code(code);
         self.pc += 1;
+    }
+
+    /// Goes on at another place.
+    pub(crate) fn jump(&mut self, to: u32)
+        ensures { self.new ≡ record self.old { conf = record self.old.conf { pc = to } } }
+    {
+        self.pc = to;
     }
 
     /// Pushes an operand, and goes on to the next operation.
@@ -112,11 +121,49 @@ impl Task {
         Some(Way::Next)
     }
 
+    /// Pushes a value, and goes on to the next operation.
+    pub(crate) fn put_value(&mut self, code: &Code, value: Value) -> Option<Way>
+        requires room { self.old.room ≡ room_of code.now }
+        requires runs { Runs code.now (to_next (here_of code.now self.old.conf) (Plain value ∷ self.old.conf.stack)) self.old.data' }
+        ensures next { result ≡ Some ways.Next }
+        ensures put { self.new ≡ with_stack (Plain value ∷ self.old.conf.stack) self.old }
+    {
+        self.push_value(value);
+        Some(Way::Next)
+    }
+
+    /// Pushes what a reference parameter stands for, and goes on to the next operation.
+    pub(crate) fn put_place(&mut self, code: &Code, place: Lvalue) -> Option<Way>
+        requires room { self.old.room ≡ room_of code.now }
+        requires runs { Runs code.now (to_next (here_of code.now self.old.conf) (Place place ∷ self.old.conf.stack)) self.old.data' }
+        ensures next { result ≡ Some ways.Next }
+        ensures put { self.new ≡ with_stack (Place place ∷ self.old.conf.stack) self.old }
+    {
+        self.push_place(place);
+        Some(Way::Next)
+    }
+
     /// Pushes an operand.
     fn push(&mut self, datum: Held)
         requires { length self.old.conf.stack < self.old.room.operands }
         ensures { self.new ≡ with_stack (datum ∷ self.old.conf.stack) self.old }
     {
         self.operands.push(datum);
+    }
+
+    /// Pushes a value.
+    fn push_value(&mut self, value: Value)
+        requires { length self.old.conf.stack < self.old.room.operands }
+        ensures { self.new ≡ with_stack (Plain value ∷ self.old.conf.stack) self.old }
+    {
+        self.operands.push_value(value);
+    }
+
+    /// Pushes what a reference parameter stands for.
+    fn push_place(&mut self, place: Lvalue)
+        requires { length self.old.conf.stack < self.old.room.operands }
+        ensures { self.new ≡ with_stack (Place place ∷ self.old.conf.stack) self.old }
+    {
+        self.operands.push_place(place);
     }
 }

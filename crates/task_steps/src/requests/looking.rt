@@ -1,11 +1,13 @@
 //! Looks and waits.
 
 ghost use Rattle.std.specs.Prelude.{◌≡◌, ◌≢◌, ◌<◌, length, Some};
+ghost use Rattle.rapid_model.specs.declared.request.Request.TheVariants as requests;
 ghost use Rattle.stack_code.specs.CodeData.{CodeData};
 ghost use Rattle.stack_code.specs.Steps.{act, looks};
 ghost use Rattle.stack_code.specs.declared.op.Op.TheVariants as ops;
 ghost use Rattle.task_steps.specs.Alike.{Goes, Turns, with_stack};
 ghost use Rattle.task_steps.specs.Doing.{here_of};
+ghost use Rattle.task_steps.specs.declared.requests.pending.Pending.TheVariants as pendings;
 ghost use Rattle.task_steps.specs.Phases as phases;
 ghost use Rattle.task_steps.specs.declared.steps.way.Way.TheVariants as ways;
 
@@ -17,6 +19,26 @@ use crate::steps::way::Way;
 use crate::task::Task;
 use rapid_model::Request;
 use task_code::{Code, owner_of};
+
+/// Makes the request a Look. Writes nothing if the last request was one too.
+fn ask_look(asked: &mut Request)
+    ensures { asked.new ≡ requests.Look }
+{
+    match asked {
+        Request::Look => {}
+        other => *other = Request::Look,
+    }
+}
+
+/// Waits for the answer to a Look. Writes nothing if the last request was one too.
+fn await_look(then: &mut Pending)
+    ensures { then.new ≡ pendings.Looked }
+{
+    match then {
+        Pending::Looked => {}
+        other => *other = Pending::Looked,
+    }
+}
 
 impl Task {
     /// Asks whether the statement may begin, and keeps its position.
@@ -30,8 +52,8 @@ impl Task {
         keep_code(code);
         let owner = owner_of(code.marks(), self.pc);
         self.place = Some(owner.at);
-        self.asked = Request::Look;
-        self.then = Pending::Looked;
+        ask_look(&mut self.asked);
+        await_look(&mut self.then);
         self.stage = Stage::Asking;
         Some(Way::Stay)
     }

@@ -34,9 +34,9 @@ pub enum Pending {
     Ordered,
     /// An interrupt sleeps, wakes or is deleted.
     Known,
-    /// Stores the number of a zone.
+    /// Stores the number of a zone that was given.
     Supervised(Lvalue),
-    /// A zone is supervised again, or no longer.
+    /// A zone was switched on or off.
     Zoned,
     /// A zone was freed: stores 0.
     Freed(Lvalue),

@@ -7,6 +7,7 @@ ghost use Rattle.task_steps.specs.Doing as doing;
 ghost use Rattle.task_steps.specs.Doing.{here_of};
 ghost use Rattle.task_steps.specs.Seen.{request_in, room_of};
 ghost use Rattle.task_steps.specs.declared.requests.pending.Pending.{Pending};
+ghost use Rattle.task_steps.specs.declared.requests.pending.Pending.TheVariants as pendings;
 ghost use Rattle.task_steps.specs.Phases as phases;
 
 use crate::requests::answers;
@@ -17,10 +18,88 @@ use crate::steps::stage::Stage;
 use crate::task::Task;
 use rapid_model::{Answer, Request};
 use std::mem;
+use task_code::Code;
 
 impl Task {
     /// Goes on with the answer to what was asked.
     pub fn reply(&mut self, loaded: &LoadedCode, answer: Answer)
+        requires asking { (request : Request) × (then : Pending) × (self.old.phase ≡ phases.Asking request then) }
+        requires room { self.old.room ≡ room_of loaded.now }
+        requires fits { (by : Fitting) × (request : Request) × IsTrue (fits_request by request answer) × (by.axes ≡ loaded.now.axes) }
+        requires runs { (request : Request) (then : Pending) → self.old.phase ≡ phases.Asking request then → Runs loaded.now (doing.answered (here_of loaded.now self.old.conf) then answer) self.old.data' }
+        ensures room { self.new.room ≡ self.old.room }
+        ensures begun { self.new.phase ≢ phases.New }
+        ensures on { (request : Request) (then : Pending) → self.old.phase ≡ phases.Asking request then → Follows loaded.now (doing.answered (here_of loaded.now self.old.conf) then answer) self.old.data' self.new }
+    {
+        match self.stage {
+            Stage::Asking => match self.then {
+                Pending::Looked => self.take_look(loaded, answer),
+                Pending::Read => self.take_value(loaded.code(), answer),
+                Pending::Confirmed => self.take_ok(loaded.code(), answer),
+                _ => self.take_answer(loaded, answer),
+            },
+            Stage::New => unreachable!(),
+            Stage::Going => unreachable!(),
+            Stage::Over(_) => unreachable!(),
+        }
+    }
+
+    /// Goes on with the answer to a Look.
+    fn take_look(&mut self, loaded: &LoadedCode, answer: Answer)
+        requires room { self.old.room ≡ room_of loaded.now }
+        requires runs { Runs loaded.now (doing.answered (here_of loaded.now self.old.conf) pendings.Looked answer) self.old.data' }
+        ensures room { self.new.room ≡ self.old.room }
+        ensures begun { self.new.phase ≢ phases.New }
+        ensures on { Follows loaded.now (doing.answered (here_of loaded.now self.old.conf) pendings.Looked answer) self.old.data' self.new }
+    {
+        self.stage = Stage::Going;
+        match answer {
+            Answer::Go { seen } => {
+                self.frames.set_seen(seen);
+                self.go_next(loaded.code());
+            }
+            other => {
+                let done = self.looked(loaded, other);
+                self.commit(loaded.code(), done);
+            }
+        }
+    }
+
+    /// Goes on with a value that was read.
+    fn take_value(&mut self, code: &Code, answer: Answer)
+        requires room { self.old.room ≡ room_of code.now }
+        requires runs { Runs code.now (doing.answered (here_of code.now self.old.conf) pendings.Read answer) self.old.data' }
+        ensures room { self.new.room ≡ self.old.room }
+        ensures begun { self.new.phase ≢ phases.New }
+        ensures on { Follows code.now (doing.answered (here_of code.now self.old.conf) pendings.Read answer) self.old.data' self.new }
+    {
+        self.stage = Stage::Going;
+        match answer {
+            Answer::Val(value) => {
+                self.put_value(code, value);
+                self.go_next(code);
+            }
+            other => self.commit(code, answers::read(other)),
+        }
+    }
+
+    /// Goes on once a request is confirmed.
+    fn take_ok(&mut self, code: &Code, answer: Answer)
+        requires room { self.old.room ≡ room_of code.now }
+        requires runs { Runs code.now (doing.answered (here_of code.now self.old.conf) pendings.Confirmed answer) self.old.data' }
+        ensures room { self.new.room ≡ self.old.room }
+        ensures begun { self.new.phase ≢ phases.New }
+        ensures on { Follows code.now (doing.answered (here_of code.now self.old.conf) pendings.Confirmed answer) self.old.data' self.new }
+    {
+        self.stage = Stage::Going;
+        match answer {
+            Answer::Ok => self.go_next(code),
+            other => self.commit(code, answers::confirmed(other)),
+        }
+    }
+
+    /// Goes on with the answer to any request.
+    fn take_answer(&mut self, loaded: &LoadedCode, answer: Answer)
         requires asking { (request : Request) × (then : Pending) × (self.old.phase ≡ phases.Asking request then) }
         requires room { self.old.room ≡ room_of loaded.now }
         requires fits { (by : Fitting) × (request : Request) × IsTrue (fits_request by request answer) × (by.axes ≡ loaded.now.axes) }

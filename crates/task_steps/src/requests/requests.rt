@@ -16,7 +16,7 @@ ghost use Rattle.rapid_meaning.specs.Moves.{aim, cap_of, when_located};
 ghost use Rattle.rapid_meaning.specs.Places.{store};
 ghost use Rattle.rapid_meaning.specs.Signals.{write_signal};
 ghost use Rattle.rapid_meaning.specs.Values.{bit_in, num_in, of_bit, target_in, text_in, tool_speed_in, truth_in};
-ghost use Rattle.rapid_meaning.specs.Zones.{asks_of_zone, defined, supervise};
+ghost use Rattle.rapid_meaning.specs.Zones.{asks_of_zone, defined, supervise, tie};
 ghost use Rattle.stack_code.specs.Steps.{Here, does, fails, pushes, sets_out};
 ghost use Rattle.task_steps.specs.Doing.{came};
 ghost use Rattle.task_steps.specs.declared.steps.done.Done.TheVariants as dones;
@@ -182,6 +182,49 @@ pub(crate) fn supervised(
                 old,
                 temporary,
                 shape,
+            },
+            Pending::Supervised(place),
+        ),
+        None => end(Fault::ZoneShape),
+    }
+}
+
+/// Ties a signal to a shape that was defined: to this value inside it. The old number is that of the zone's variable, at
+/// this place.
+pub(crate) fn tied(
+    place: Lvalue,
+    old: u8,
+    temporary: bool,
+    shape: Option<Shape>,
+    signal: u32,
+    value: &Value,
+) -> Option<Done>
+    ensures { (h : Here) → does h h.conf.stack (after (bit_in value.now) (λ bit. tie place old temporary shape signal bit) Raises) ≡ came h result }
+{
+    match bit_of(value)? {
+        Ok(value) => tied_to(place, old, temporary, shape, signal, value),
+        Err(why) => end(why),
+    }
+}
+
+fn tied_to(
+    place: Lvalue,
+    old: u8,
+    temporary: bool,
+    shape: Option<Shape>,
+    signal: u32,
+    value: bool,
+) -> Option<Done>
+    ensures { (h : Here) → does h h.conf.stack (tie place old temporary shape signal value) ≡ came h result }
+{
+    match shape {
+        Some(shape) => ask(
+            Request::ZoneTie {
+                old,
+                temporary,
+                shape,
+                signal,
+                value,
             },
             Pending::Supervised(place),
         ),

@@ -8,6 +8,7 @@ ghost use Rattle.task_steps.specs.Phases as phases;
 
 use crate::routines::loaded::LoadedCode;
 use crate::steps::stage::Stage;
+use crate::steps::way::Way;
 use crate::task::Task;
 
 impl Task {
@@ -30,7 +31,14 @@ impl Task {
         ensures on { Follows loaded.now (step loaded.now (conf_in loaded.now self.old.conf)) self.old.data' self.new }
     {
         let op = &loaded.code().ops()[self.pc as usize];
-        let way = self.perform(loaded, op);
-        self.go(loaded.code(), way)
+        match self.perform(loaded, op) {
+            Some(way) => match way {
+                Way::Next => self.go_next(loaded.code()),
+                Way::Jump(to) => self.jump(to),
+                Way::Stay => {}
+                _ => self.go(loaded.code(), Some(way)),
+            },
+            None => unreachable!(),
+        }
     }
 }

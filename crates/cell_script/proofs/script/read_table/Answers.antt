@@ -1,7 +1,7 @@
-use Rattle.std.proofs.Common.{[], codes, arith}
+use Rattle.std.proofs.Common.{[], codes}
 use Rattle.toml.specs.View.{table_view}
 use Rattle.cell_script.specs.Keys.{Keys, at, value_of}
-use Rattle.cell_script.proofs.LimitsScript.{IsScript-from, signals_are, tasks_are}
+use Rattle.cell_script.proofs.LimitsScript.{IsScript-from, few_tasks, signals_are}
 use Rattle.cell_script.proofs.script.read_table.Goals as goal
 
 pub zones_in-requires-clause-few_signals : goal.zones_in-requires-clause-few_signals
@@ -12,8 +12,7 @@ zones_in-requires-clause-few_signals c =
 pub zones_in-requires-clause-few_tasks : goal.zones_in-requires-clause-few_tasks
 zones_in-requires-clause-few_tasks c =
     let keys : Keys = record { path = []; members = table_view c.args.table.now } in
-    let most = (tasks_are keys c.in_ok-tasks.tasks.items c.in_ok-tasks.ensures).at_most in
-    rw c.deref-2.ensures.value (omega arith)
+    rw c.deref-2.ensures.value (few_tasks c.in_ok-version.version keys c.in_ok-tasks.tasks.items c.in_ok-tasks.ensures)
 
 pub inputs_in-requires-clause-few_signals : goal.inputs_in-requires-clause-few_signals
 inputs_in-requires-clause-few_signals c =
@@ -23,8 +22,7 @@ inputs_in-requires-clause-few_signals c =
 pub inputs_in-requires-clause-few_tasks : goal.inputs_in-requires-clause-few_tasks
 inputs_in-requires-clause-few_tasks c =
     let keys : Keys = record { path = []; members = table_view c.args.table.now } in
-    let most = (tasks_are keys c.in_ok-tasks.tasks.items c.in_ok-tasks.ensures).at_most in
-    rw c.deref-4.ensures.value (omega arith)
+    rw c.deref-4.ensures.value (few_tasks c.in_ok-version.version keys c.in_ok-tasks.tasks.items c.in_ok-tasks.ensures)
 
 pub invariant_of-script : goal.invariant_of-script
 invariant_of-script c =

@@ -1,14 +1,14 @@
-use Rattle.std.proofs.Common.{◌≡◌, length, arith}
+use Rattle.std.proofs.Common.{◌≡◌}
 use Rattle.cell_script.specs.Rows.{zone_of, shape_of}
 use Rattle.cell_script.proofs.zone.zone_of.Goals as goal
 
 pub returns : goal.returns
 unfolding zone_of
 returns c =
-    let shape : c.shape_of.result ≡ shape_of c.in_ok-inside.inside c.in_ok-axes.axes.items c.in_ok-lows.lows.items c.in_ok-highs.highs.items = rw (c.shape_of.ensures, c.deref-2.ensures.value, c.deref-3.ensures.value, c.deref-4.ensures.value) in
-    let count : c.len.result ≡ length c.in_ok-axes.axes.items = omega (arith, c.len.ensures, c.in_ok-axes.axes.ok.0) in
-    let lows = rw count at c.in_ok-lows.ensures in
-    let highs = rw c.deref.ensures.value at c.in_ok-highs.ensures in
+    let shape : c.shape_of.result ≡ shape_of c.in_ok-inside.inside c.in_ok-axes.axes.items c.in_ok-lows.lows.items c.in_ok-highs.highs.items = rw (c.shape_of.ensures, c.deref-4.ensures.value, c.deref-5.ensures.value, c.deref-6.ensures.value) in
+    let axes = rw c.axes_of-count.ensures at c.in_ok-axes.ensures in
+    let lows = rw c.deref.ensures.value at c.in_ok-lows.ensures in
+    let highs = rw (c.deref-2.ensures.value, c.deref-3.ensures.value) at c.in_ok-highs.ensures in
     rw (
       c.in_ok-keys.ensures,
       c.in_ok-needed.ensures,
@@ -18,7 +18,7 @@ returns c =
       c.in_ok-needed-3.ensures,
       c.in_ok-inside.ensures,
       c.in_ok-needed-4.ensures,
-      c.in_ok-axes.ensures,
+      axes,
       c.in_ok-needed-5.ensures,
       lows,
       c.in_ok-needed-6.ensures,

@@ -1,13 +1,15 @@
-use Rattle.std.proofs.Common.{sym, ◌∙◌, subst, length, IsTrue}
+use Rattle.std.proofs.Common.{◌≡◌, sym, ◌∙◌, subst, length, IsTrue}
 use Rattle.rapid_model.specs.Limits.{is_axes}
 use Rattle.typed_trees.specs.Plain.{TypedTree}
 use Rattle.typed_trees.specs.Views.{view_tree}
 use Rattle.stack_code.specs.CodeData.{CodeData}
 use Rattle.stack_code.specs.Compiled.{compiled}
+use Rattle.task_code.specs.Armless.{is_armless}
 use Rattle.task_code.specs.Owners.{Tiles}
 use Rattle.task_code.proofs.Rows.{tiled}
 use Rattle.task_code.specs.Live.{IsLive}
 use Rattle.code_laws.specs.Asking.{AsksAs}
+use Rattle.code_laws.proofs.Armless.{armless}
 use Rattle.code_laws.proofs.Lives.{asks_as, live}
 use Rattle.code_compiler.proofs.compiler.compile.Goals as goal
 
@@ -18,6 +20,7 @@ kept-requires c = record {
   few_ops = c.is_counted.ensures.ops c.if-is_counted.true;
   few_slots = c.is_counted.ensures.slots c.if-is_counted.true;
   axes = subst (λ (code : CodeData). IsTrue (is_axes code.axes)) (sym c.in_ok-linked.ensures) c.requires.typed.axes;
+  armless = subst (λ (code : CodeData). code.axes ≡ 0 → IsTrue (is_armless code.ops)) (sym c.in_ok-linked.ensures) (armless c.requires.signals (view_tree c.args.tree.now) c.requires.typed);
 }
 
 pub returns-then-is_counted-clause-asks : goal.returns-then-is_counted-clause-asks

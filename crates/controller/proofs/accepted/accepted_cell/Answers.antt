@@ -23,11 +23,11 @@ commanded_cell-requires g c = asked_moves (map g.W.AsSlice.items c.args.words.no
 
 pub returns-in-Ok-commanded_cell-clause-asked : goal.returns-in-Ok-commanded_cell-clause-asked
 returns-in-Ok-commanded_cell-clause-asked g c =
-    c.in-Ok-commanded_cell.ensures.asked (map g.W.AsSlice.items c.args.words.now) (record { taken = c.in-Ok.ensures.taken; asked_is = c.in-Ok.ensures.action; name_is = c.in-Ok.ensures.name })
+    c.in-Ok-commanded_cell.ensures.asked (map g.W.AsSlice.items c.args.words.now) (record { taken = c.in-Ok.ensures.taken; asked_is = c.in-Ok.ensures.action; name_is = c.in-Ok.ensures.name; history_is = c.in-Ok.ensures.history })
 
 pub returns-in-Err-commanded_cell-clause-refused : goal.returns-in-Err-commanded_cell-clause-refused
 returns-in-Err-commanded_cell-clause-refused g c = λ held.
-    c.in-Err-commanded_cell.ensures.refused (map g.W.AsSlice.items c.args.words.now) held (record { taken = c.in-Ok.ensures.taken; asked_is = c.in-Ok.ensures.action; name_is = c.in-Ok.ensures.name })
+    c.in-Err-commanded_cell.ensures.refused (map g.W.AsSlice.items c.args.words.now) held (record { taken = c.in-Ok.ensures.taken; asked_is = c.in-Ok.ensures.action; name_is = c.in-Ok.ensures.name; history_is = c.in-Ok.ensures.history })
 
 pub returns-in-Err-commanded_cell-clause-words : goal.returns-in-Err-commanded_cell-clause-words
 returns-in-Err-commanded_cell-clause-words g c =

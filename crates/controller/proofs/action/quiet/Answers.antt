@@ -1,5 +1,6 @@
-use Rattle.std.proofs.Common.{ap}
+use Rattle.std.proofs.Common.{ℕ, ◌≤◌, List, ap, length, subst, sym}
 use Rattle.std.specs.Prelude.{map}
+use Rattle.rapid_limits.specs.declared.TheConstants.{HISTORY_BYTES}
 use Rattle.controller.specs.Files.{IsDoneFault}
 use Rattle.controller.specs.Loaded.{made_of}
 use Rattle.controller.specs.Printed.{sunk}
@@ -12,10 +13,13 @@ use Rattle.controller.proofs.action.quiet.Goals as goal
 pub do_accepted-requires-clause-other : goal.do_accepted-requires-clause-other
 do_accepted-requires-clause-other g c = not_run (map g.W.AsSlice.items c.args.words.now) c.in-Ok.action c.in-Ok.ensures.action c.requires
 
+pub do_accepted-requires-clause-within : goal.do_accepted-requires-clause-within
+do_accepted-requires-clause-within g c = subst (λ (text : List ℕ). length text ≤ HISTORY_BYTES) (sym c.as_slice.ensures.value) c.in-Ok.ensures.within
+
 pub returns-in-Ok-clause-answers : goal.returns-in-Ok-clause-answers
 returns-in-Ok-clause-answers g c =
-    asked_answered (map g.W.AsSlice.items c.args.words.now) (g.S.Shelf.told c.args.shelf.now) c.in-Ok.action (made_of c.in-Ok.accepted) _ _ _ _ c.in-Ok.ensures.asked
-    (ap (λ (e : g.row.E.Denot). sunk g.E.Sink.told g.E.Sink.calls g.E.Sink.faults e c.do_accepted.new.err) c.in-Ok.ensures.untold) c.do_accepted.ensures.answers
+    asked_answered (map g.W.AsSlice.items c.args.words.now) (g.S.Shelf.told c.args.shelf.now) c.in-Ok.action (made_of c.in-Ok.accepted) c.in-Ok.text.items c.as_slice.result.now _ _ _ _ c.in-Ok.ensures.asked
+    c.as_slice.ensures.value (ap (λ (e : g.row.E.Denot). sunk g.E.Sink.told g.E.Sink.calls g.E.Sink.faults e c.do_accepted.new.err) c.in-Ok.ensures.untold) c.do_accepted.ensures.answers
 
 pub returns-in-Ok-clause-words : goal.returns-in-Ok-clause-words
 returns-in-Ok-clause-words g c =

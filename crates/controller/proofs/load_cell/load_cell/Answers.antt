@@ -1,15 +1,18 @@
-use Rattle.std.proofs.Common.{◌≡◌, ℕ, List, ap, inl, map, ◌∙◌}
+use Rattle.std.proofs.Common.{◌≡◌, ℕ, List, ap, inl, map, sym, ◌∙◌}
 use Rattle.std.specs.Prelude.{Err}
 use Rattle.std.proofs.lemmas.Result.{IfErr-weaker, IfOk-weaker}
 use Rattle.cell_load.specs.Texts.{module_files}
 use Rattle.cell_load.specs.Views.{view_modules}
+use Rattle.command_words.specs.declared.command.Action.{Action}
+use Rattle.command_words.specs.declared.command.Action.TheVariants as actions
 use Rattle.controller.specs.Files.{IsLoadFault}
 use Rattle.controller.specs.LoadFiles.{module_named}
-use Rattle.controller.specs.Loaded.{bytes_of, names_in_turn}
+use Rattle.controller.specs.Loaded.{bytes_of, file_names, made_of, names_in_turn}
 use Rattle.controller.specs.declared.refused.Refused.TheVariants.{Memory}
 use Rattle.controller.proofs.Causes.{known_fault}
 use Rattle.controller.proofs.Exits.{memory_refused, script_refused}
 use Rattle.controller.proofs.Gains.{gained_none}
+use Rattle.controller.proofs.LastReads.{text_asked}
 use Rattle.controller.proofs.LoadTexts.{load_script_given, load_texts_given, texts_within}
 use Rattle.controller.proofs.load_cell.load_cell.Goals as goal
 
@@ -22,8 +25,8 @@ returns-in-Err-clause-causes g c = λ old new. known_fault (IsLoadFault old new)
 
 pub returns-in-Err-script_of-clause-refused : goal.returns-in-Err-script_of-clause-refused
 returns-in-Err-script_of-clause-refused g c = λ words told held is_for.
-    script_refused words told c.args.command.now.action c.args.command.now.script.now c.in-Err-script_of.refused _ _ _
-    (load_script_given words told c.args.command.now.action c.args.command.now.script.now c.args.moves c.as_slice.result.now (Err c.in-Err-script_of.refused) is_for c.requires.action c.requires.moves
+    script_refused words told c.args.command.now.action c.args.command.now.script.now c.args.command.now.history.now c.in-Err-script_of.refused _ _ _
+    (load_script_given words told c.args.command.now.action c.args.command.now.script.now c.args.command.now.history.now c.args.moves c.as_slice.result.now (Err c.in-Err-script_of.refused) is_for c.requires.action c.requires.moves
     (c.as_slice.ensures.value ∙ c.in-Ok.ensures.script) c.in-Err-script_of.ensures.script) (record {
       refused_is = c.refuse_file.ensures.refused;
       status = c.refuse_file.ensures.status;
@@ -72,18 +75,24 @@ returns-clause-refused g c =
     let names = names_in_turn c.as_slice-files.result.now in
     let texts = own (module_files c.args.moves) (view_modules c.as_slice-2.result.now) names (bytes_of c.in-Ok-own_texts.texts.items) (ap view_modules c.as_slice-2.ensures.value ∙ c.in-Ok.ensures.modules) c.in-Ok-own_texts.ensures in
     IfErr-weaker c.texts_cell.result _ _ (λ report answers. λ words told held is_for. answers words told held
-    (load_texts_given words told c.args.command.now.action c.args.command.now.script.now c.args.moves c.as_slice.result.now c.in-Ok-script_of.script names (bytes_of c.in-Ok-own_texts.texts.items) is_for
+    (load_texts_given words told c.args.command.now.action c.args.command.now.script.now c.args.command.now.history.now c.args.moves c.as_slice.result.now c.in-Ok-script_of.script names (bytes_of c.in-Ok-own_texts.texts.items) is_for
     c.requires.action c.requires.moves (c.as_slice.ensures.value ∙ c.in-Ok.ensures.script) c.in-Ok-script_of.ensures.script
     (ap names_in_turn c.as_slice-files.ensures.value ∙ c.in-Ok-module_files.ensures.named) texts)) c.texts_cell.ensures.refused
 
 pub returns-clause-causes : goal.returns-clause-causes
 returns-clause-causes g c = IfErr-weaker c.texts_cell.result _ _ (λ report causes. λ old new. causes old new tt) c.texts_cell.ensures.causes
 
+-- the action reads no history
+no_audit : (action : Action) (moves : ℕ) → action ≡ actions.Load moves → action ≡ actions.Audit → ⊥
+no_audit action moves is audit = let same : actions.Load moves ≡ actions.Audit = sym is ∙ audit in cc
+
 pub returns-clause-asked : goal.returns-clause-asked
 returns-clause-asked g c =
     let names = names_in_turn c.as_slice-files.result.now in
     let texts = own (module_files c.args.moves) (view_modules c.as_slice-2.result.now) names (bytes_of c.in-Ok-own_texts.texts.items) (ap view_modules c.as_slice-2.ensures.value ∙ c.in-Ok.ensures.modules) c.in-Ok-own_texts.ensures in
-    IfOk-weaker c.texts_cell.result _ _ (λ accepted is_asked. λ words told is_for. is_asked words told
-    (load_texts_given words told c.args.command.now.action c.args.command.now.script.now c.args.moves c.as_slice.result.now c.in-Ok-script_of.script names (bytes_of c.in-Ok-own_texts.texts.items) is_for
-    c.requires.action c.requires.moves (c.as_slice.ensures.value ∙ c.in-Ok.ensures.script) c.in-Ok-script_of.ensures.script
-    (ap names_in_turn c.as_slice-files.ensures.value ∙ c.in-Ok-module_files.ensures.named) texts)) c.texts_cell.ensures.asked
+    IfOk-weaker c.texts_cell.result _ _ (λ accepted is_to_do. λ words told text is_for.
+    let given = load_texts_given words told c.args.command.now.action c.args.command.now.script.now c.args.command.now.history.now c.args.moves c.as_slice.result.now c.in-Ok-script_of.script names
+    (bytes_of c.in-Ok-own_texts.texts.items) is_for c.requires.action c.requires.moves (c.as_slice.ensures.value ∙ c.in-Ok.ensures.script) c.in-Ok-script_of.ensures.script
+    (ap names_in_turn c.as_slice-files.ensures.value ∙ c.in-Ok-module_files.ensures.named) texts in
+    text_asked words told c.args.command.now.action given.given.gave c.args.command.now.history.now text (file_names c.args.command.now.script.now c.as_slice-files.result.now) (made_of accepted)
+    (λ audit. absurd (no_audit c.args.command.now.action c.args.moves c.requires.action audit)) (is_to_do words told given)) c.texts_cell.ensures.asked

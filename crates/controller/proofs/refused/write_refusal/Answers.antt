@@ -2,7 +2,7 @@ use Rattle.std.proofs.Common.{◌++◌, ap, ◌∙◌}
 use Rattle.std.specs.Prelude.{decimal}
 use Rattle.controller.specs.Refusals.{refusal_text, key_words}
 use Rattle.controller.proofs.Gains.{in_words}
-use Rattle.controller.proofs.RefusalLines.{words_pieces, script_pieces, module_pieces, read_pieces, long_pieces}
+use Rattle.controller.proofs.RefusalLines.{words_pieces, script_pieces, module_pieces, read_pieces, long_pieces, history_pieces}
 use Rattle.controller.proofs.refused.write_refusal.Goals as goal
 
 pub returns-in-Words : goal.returns-in-Words
@@ -34,3 +34,11 @@ returns-in-Memory g c = in_words _ _ _ _ (ap (refusal_text c.args.name.now) c.in
 
 pub returns-in-TooLong : goal.returns-in-TooLong
 returns-in-TooLong g c = in_words _ _ _ _ (long_pieces c.args.name.now _ c.in-TooLong.file c.args.refused.now c.in-TooLong.is c.as_bytes-name.ensures.value) c.write_line-in-TooLong.ensures
+
+pub returns-in-History : goal.returns-in-History
+returns-in-History g c =
+    in_words _ _ _ _
+    (history_pieces c.args.name.now _ c.in-History.line c.args.refused.now c.in-History.is
+    (c.as_bytes-text-in-History.ensures.value ∙ c.as_str-in-History.ensures.value ∙ c.push_count-in-History.ensures.text
+    ∙ ap (λ b. b ++ decimal c.in-History.line) c.new-digits-in-History.ensures))
+    c.write_line-in-History.ensures

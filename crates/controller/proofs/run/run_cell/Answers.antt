@@ -30,6 +30,7 @@ returns-in-Ok g c =
     turns_answered c.args.shown c.args.accepted.cell c.in-Ok.core.cell (map view_tree c.args.accepted.trees.items) (map view_tree c.as_slice.result.now) c.in-Ok.core.history _ _ _ c.in-Ok.ensures.cell
     (ap (map view_tree) c.as_slice.ensures.value)
     (record {
+      limits = c.within_limits.ensures;
       well = c.accepted_tasks_ask_well.ensures has.script (made_with c.args.accepted.cell c.as_slice.result.now) has.accepted;
       legal = c.in-Ok.ensures.legal;
       whole = c.in-Ok.ensures.whole;

@@ -1,9 +1,9 @@
-use Rattle.std.proofs.Common.{List, subst, sym, Some, Vec, ℕ}
+use Rattle.std.proofs.Common.{List, subst, sym, arith, Some, Vec, ℕ}
 use Rattle.std.specs.declared.alloc.Global.{Global}
 use Rattle.controller.specs.Files.{told_reads}
 use Rattle.controller.specs.Loaded.{names_in_turn, bytes_of, AreTexts}
 use Rattle.controller.specs.declared.refused.Refused.TheVariants.{Memory}
-use Rattle.controller.proofs.Loads.{loading_fails, loading_lacks, loading_ends}
+use Rattle.controller.proofs.Loads.{loading_fails, loading_lacks, loading_ends, loading_reads}
 use Rattle.controller.proofs.texts.load_texts.Goals as goal
 
 pub returns-in-Err-clause-told : goal.returns-in-Err-clause-told
@@ -21,3 +21,8 @@ pub returns-clause-told : goal.returns-clause-told
 returns-clause-told g c =
     loading_ends (g.S.Shelf.told c.args.shelf.now) (g.S.Shelf.told c.loop-k.shelf) (g.S.Shelf.faults c.args.shelf.now) (g.S.Shelf.faults c.loop-k.shelf) c.args.modules.now c.loop-k.k c.loop-k.texts.items
     c.loop-k-test.false c.loop-k.invariant
+
+pub returns-clause-told_after : goal.returns-clause-told_after
+returns-clause-told_after g c = λ none.
+    loading_reads (g.S.Shelf.told c.args.shelf.now) (g.S.Shelf.told c.loop-k.shelf) (g.S.Shelf.faults c.args.shelf.now) (g.S.Shelf.faults c.loop-k.shelf) c.args.modules.now c.loop-k.k c.loop-k.texts.items
+    c.loop-k-test.false (omega arith) c.loop-k.invariant

@@ -1,6 +1,7 @@
 use Rattle.std.proofs.Common.{Some, ◌∙◌}
 use Rattle.std.proofs.lemmas.List.{length-map}
 use Rattle.typed_trees.specs.Views.{view_tree}
+use Rattle.controller.specs.Accepted.{ActionReads}
 use Rattle.controller.specs.Loaded.{file_names, made_of, reads_in}
 use Rattle.controller.proofs.Accepting.{checked_has_script}
 use Rattle.controller.proofs.Checking.{checks_told}
@@ -14,8 +15,8 @@ returns-in-Ok-clause-script g c =
     (length-map c.in-Ok.accepted.trees.items view_tree ∙ c.in-Ok.ensures.one_each)
 
 pub returns-in-Err-clause-refused : goal.returns-in-Err-clause-refused
-returns-in-Err-clause-refused g c = λ held.
-    check_refused (file_names c.args.command.now.script.now c.args.files.now) (Some c.args.command.now.action) c.args.script.now (reads_in c.args.modules.now) c.in-Err.refused _ _ _ c.in-Err.ensures.gives (record {
+returns-in-Err-clause-refused g c = λ gave held.
+    check_refused (file_names c.args.command.now.script.now c.args.files.now) (ActionReads (Some c.args.command.now.action) gave c.args.command.now.history.now) c.args.script.now (reads_in c.args.modules.now) c.in-Err.refused _ _ _ c.in-Err.ensures.gives (record {
       refused_is = c.refuse_file.ensures.refused;
       status = c.refuse_file.ensures.status;
       history = c.refuse_file.ensures.history;

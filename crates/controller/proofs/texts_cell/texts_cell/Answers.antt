@@ -20,7 +20,7 @@ returns-in-Ok-clause-refused g c =
     let parsed = parsed_here c.args.found.texts.items c.as_slice.result.now c.as_slice-in-Ok.result.now c.in-Ok.trees.items c.as_slice-in-Ok-2.result.now c.args.found.failed
     c.as_slice.ensures.value c.as_slice-in-Ok.ensures.value c.as_slice-in-Ok-2.ensures.value c.in-Ok.ensures.parsed in
     IfErr-weaker c.cell_of.result _ _ (λ report answers. λ words told held given.
-    all_read words told _ _ c.args.script.now c.args.files.now _ c.args.found.failed _ report _ _ c.requires.named given parsed (answers held)) c.cell_of.ensures.refused
+    all_read words told _ _ _ c.args.script.now c.args.files.now _ c.args.found.failed _ report _ _ c.requires.named given parsed (answers given.given.gave held)) c.cell_of.ensures.refused
 
 pub returns-in-Ok-clause-causes : goal.returns-in-Ok-clause-causes
 returns-in-Ok-clause-causes g c = IfErr-weaker c.cell_of.result _ _ (λ report causes. λ old new fault. causes old new) c.cell_of.ensures.causes
@@ -30,11 +30,14 @@ returns-in-Ok-clause-asked g c =
     let parsed = parsed_here c.args.found.texts.items c.as_slice.result.now c.as_slice-in-Ok.result.now c.in-Ok.trees.items c.as_slice-in-Ok-2.result.now c.args.found.failed
     c.as_slice.ensures.value c.as_slice-in-Ok.ensures.value c.as_slice-in-Ok-2.ensures.value c.in-Ok.ensures.parsed in
     IfOk-weaker c.cell_of.result _ _ (λ accepted gives. λ words told given.
-    all_asked words told _ _ c.args.script.now c.args.files.now _ c.args.found.failed _ (made_of accepted) c.requires.named given parsed gives) c.cell_of.ensures.gives
+    all_asked words told _ _ _ c.args.script.now c.args.files.now _ c.args.found.failed _ (made_of accepted) c.requires.named given parsed gives) c.cell_of.ensures.gives
+
+pub returns-in-Ok-clause-whole : goal.returns-in-Ok-clause-whole
+returns-in-Ok-clause-whole g c = IfOk-weaker c.cell_of.result _ _ (λ accepted gives. c.in-Ok.ensures.whole) c.cell_of.ensures.gives
 
 pub returns-clause-refused : goal.returns-clause-refused
 returns-clause-refused g c = λ words told held given.
-    module_refused words told _ _ c.args.script.now c.args.files.now _ c.args.found.failed c.in-Err.refused _ _ _ c.requires.named given (record {
+    module_refused words told _ _ _ c.args.script.now c.args.files.now _ c.args.found.failed c.in-Err.refused _ _ _ c.requires.named given (record {
       refused_is = c.refuse_file.ensures.refused;
       status = c.refuse_file.ensures.status;
       history = c.refuse_file.ensures.history;

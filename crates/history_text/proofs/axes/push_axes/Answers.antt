@@ -6,7 +6,7 @@ use Rattle.history_text.proofs.axes.push_axes.Goals as goal
 
 pub loop-axis-preserved : goal.loop-axis-preserved
 loop-axis-preserved c =
-    let axes = take 6 c.args.to.now.axis in
+    let axes = c.first_axes-axis-items.result.now in
     let at = c.loop-axis.axis-index in
     let within : at < length axes = omega arith in
     let more = number_words_more axes at c.axis-item.result within in

@@ -2,7 +2,7 @@ use Rattle.std.proofs.Common.{ℕ, length, ◌∙◌, ap, arith}
 use Rattle.cell_meaning.proofs.InterruptsKept.{tasks_kept}
 use Rattle.cell_core.specs.Reading.{all_stand}
 use Rattle.cell_core.proofs.Reading.{all_rest_is}
-use Rattle.cell_core.proofs.Ready.{all_answered}
+use Rattle.cell_core.proofs.Changing.{all_answered}
 use Rattle.cell_core.proofs.shared.Core.all_rest.Goals as goal
 
 pub all_stand-requires-clause-traps : goal.all_stand-requires-clause-traps

@@ -56,5 +56,5 @@ returns-clause-entered c =
     let frames : frames_in c.append_firsts.new.values.items (reverse c.push_reserved.new.self.items) ≡ first ∷ frames_in f.values.items (reverse f.marks.items) =
     ap (λ ms. frames_in c.append_firsts.new.values.items (reverse ms)) c.push_reserved.ensures.items
     ∙ frames_in-more f.values.items (args ++ own) c.append_firsts.new.values.items f.marks.items c.len-base.result base all in
-    same_frames _ _ _ _ _ _ frames (c.append_firsts.ensures.capacity ∙ c.move_to.ensures.capacity) c.push_reserved.ensures.capacity
+    same_frames _ _ _ _ _ _ frames (c.append_firsts.ensures.room ∙ c.move_to.ensures.room) c.push_reserved.ensures.capacity
     ∙ ap (λ (o : FrameStack). record o { frames = first ∷ o.frames }) c.self.view_is

@@ -1,6 +1,8 @@
-use Rattle.std.proofs.Common.{◌≡◌, ◌≢◌, ◌-◌, [], length, reverse, take, drop, sym, ap, subst, ◌∙◌, arith}
-use Rattle.machine_stacks.specs.OperandStack.{OperandStack, stacked}
-use Rattle.machine_stacks.proofs.Stacking.{same_stack, stack_dropped}
+use Rattle.std.proofs.Common.{◌≢◌, ◌-◌, [], reverse, drop, sym, ap, subst, ◌∙◌, arith}
+use Rattle.std.specs.Vec.{vec_capacity}
+use Rattle.machine_stacks.specs.OperandStack.{OperandStack}
+use Rattle.machine_stacks.specs.Words.{DataRow}
+use Rattle.machine_stacks.proofs.Stacking.{stack_dropped, stack_in}
 use Rattle.machine_stacks.proofs.operands.Operands.drop_top.Goals as goal
 
 pub returns : goal.returns
@@ -8,6 +10,6 @@ returns c =
     let s = c.self.inside in
     let P : OperandStack → Type 0 = λ o. o.top ≢ [] in
     let some = subst P (sym c.self.view_is) c.requires.some in
-    same_stack _ _ _ _ _ _ _ (ap (λ xs. reverse (drop s.base xs)) c.truncate.ensures.items) (ap (λ xs. stacked (take s.base xs) (reverse s.bases.items)) c.truncate.ensures.items) c.truncate.ensures.capacity
+    ap (λ (row : DataRow). stack_in row s.base (reverse s.bases.items) (vec_capacity s.bases)) c.truncate.ensures
     ∙ stack_dropped s.items.items (reverse s.bases.items) s.base (c.len.result - 1) _ _ some (omega arith)
     ∙ ap (λ (o : OperandStack). record o { top = drop 1 o.top }) c.self.view_is

@@ -30,7 +30,7 @@ returns-clause-rest c =
     ap (λ xs. reverse (drop s.base xs)) c.move_tail.ensures.rest ∙ rw n (sym (top_left s.items.items s.base (length s.items.items - c.args.count) c.args.count in_range.0 in_range.1)) in
     let below : take s.base c.move_tail.new.from.items ≡ take s.base s.items.items =
     ap (take s.base) c.move_tail.ensures.rest ∙ rw n (below_kept s.items.items s.base (length s.items.items - c.args.count) in_range.0 (omega arith)) in
-    same_stack _ _ _ _ _ _ _ top (ap (λ xs. stacked xs (reverse s.bases.items)) below) c.move_tail.ensures.from_capacity
+    same_stack _ _ _ _ _ _ _ top (ap (λ xs. stacked xs (reverse s.bases.items)) below) c.move_tail.ensures.from_room
     ∙ ap (λ (o : OperandStack). record o { top = drop c.args.count o.top }) c.self.view_is
 
 pub returns-clause-moved : goal.returns-clause-moved

@@ -3,8 +3,8 @@ use Rattle.machine_stacks.specs.OperandStack.{OperandStack, operands_in}
 use Rattle.machine_stacks.proofs.Stacking.{total-operands}
 use Rattle.machine_stacks.proofs.operands.Operands.push.Goals as goal
 
-pub push_reserved-requires : goal.push_reserved-requires
-push_reserved-requires c =
+pub push-requires : goal.push-requires
+push-requires c =
     let s = c.self.inside in
     let P : OperandStack → Type 0 = λ o. operands_in o < o.room in
     omega (arith, total-operands s.items.items s.base (reverse s.bases.items) c.self.invariant, subst P (sym c.self.view_is) c.requires.room)

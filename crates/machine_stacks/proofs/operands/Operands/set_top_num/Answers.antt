@@ -1,10 +1,10 @@
-use Rattle.std.proofs.Common.{◌≡◌, ◌≢◌, ◌-◌, [], ◌∷◌, length, reverse, take, drop, slice_set, sym, ap, subst, ◌∙◌, arith}
+use Rattle.std.proofs.Common.{◌≢◌, ◌-◌, [], ◌∷◌, reverse, drop, sym, ap, subst, ◌∙◌, arith}
 use Rattle.std.specs.Vec.{vec_capacity}
 use Rattle.rapid_model.specs.declared.value.Value.TheVariants as values
-use Rattle.typed_trees.specs.declared.datum.Datum.{Datum}
 use Rattle.typed_trees.specs.declared.datum.Datum.TheVariants.{Plain}
-use Rattle.machine_stacks.specs.OperandStack.{OperandStack, stacked}
-use Rattle.machine_stacks.proofs.Stacking.{stack_of, stack_set}
+use Rattle.machine_stacks.specs.OperandStack.{OperandStack}
+use Rattle.machine_stacks.specs.Words.{DataRow}
+use Rattle.machine_stacks.proofs.Stacking.{stack_in, stack_set}
 use Rattle.machine_stacks.proofs.operands.Operands.set_top_num.Goals as goal
 
 pub returns : goal.returns
@@ -13,6 +13,6 @@ returns c =
     let P : OperandStack → Type 0 = λ o. o.top ≢ [] in
     let some = subst P (sym c.self.view_is) c.requires.some in
     let at = c.len-last.result - 1 in
-    ap (λ (x : Datum). stack_of (reverse (drop s.base (slice_set s.items.items at x))) (stacked (take s.base (slice_set s.items.items at x)) (reverse s.bases.items)) (vec_capacity s.items) (vec_capacity s.bases)) c.set_num.ensures
+    ap (λ (row : DataRow). stack_in row s.base (reverse s.bases.items) (vec_capacity s.bases)) c.set_num.ensures
     ∙ stack_set s.items.items (reverse s.bases.items) s.base at _ _ (Plain (values.Num c.args.number)) some (omega arith)
     ∙ ap (λ (o : OperandStack). record o { top = Plain (values.Num c.args.number) ∷ drop 1 o.top }) c.self.view_is

@@ -1,20 +1,9 @@
-use Rattle.rapid_meaning.specs.Doings.{after}
-use Rattle.task_steps.specs.Doing.{here_of}
-use Rattle.task_steps.proofs.InPlace.{binary_is}
+use Rattle.std.proofs.Common.{sym}
+use Rattle.task_steps.proofs.InPlace.{there_value}
 use Rattle.task_steps.proofs.task.Task.binary.Goals as goal
 
-pub returns-in-Gives-clause-on : goal.returns-in-Gives-clause-on
-unfolding after
-returns-in-Gives-clause-on c = λ code. rw (c.set_top_value.ensures, c.drop_operand.ensures) (binary_is (here_of code c.args.self.now.conf) c.args.operator c.in_ok-left.left.now c.in_ok-right.right.now c.apply.result _ c.in_ok-right.ensures c.in_ok-left.ensures c.apply.ensures c.in-Gives.is)
+pub combine-requires-in_default-clause-right : goal.combine-requires-in_default-clause-right
+combine-requires-in_default-clause-right c = there_value _ _ (sym c.in_ok-right-in_default.ensures)
 
-pub returns-in-Raises-clause-on : goal.returns-in-Raises-clause-on
-unfolding after
-returns-in-Raises-clause-on c = λ code. binary_is (here_of code c.args.self.now.conf) c.args.operator c.in_ok-left.left.now c.in_ok-right.right.now c.apply.result _ c.in_ok-right.ensures c.in_ok-left.ensures c.apply.ensures c.in-Raises.is
-
-pub returns-in-OutOfRange-clause-on : goal.returns-in-OutOfRange-clause-on
-unfolding after
-returns-in-OutOfRange-clause-on c = λ code. binary_is (here_of code c.args.self.now.conf) c.args.operator c.in_ok-left.left.now c.in_ok-right.right.now c.apply.result _ c.in_ok-right.ensures c.in_ok-left.ensures c.apply.ensures c.in-OutOfRange.is
-
-pub returns-in-Unfit-clause-on : goal.returns-in-Unfit-clause-on
-unfolding after
-returns-in-Unfit-clause-on c = λ code. binary_is (here_of code c.args.self.now.conf) c.args.operator c.in_ok-left.left.now c.in_ok-right.right.now c.apply.result _ c.in_ok-right.ensures c.in_ok-left.ensures c.apply.ensures c.in-Unfit.is
+pub combine-requires-in_default-clause-left : goal.combine-requires-in_default-clause-left
+combine-requires-in_default-clause-left c = there_value _ _ (sym c.in_ok-left-in_default.ensures)

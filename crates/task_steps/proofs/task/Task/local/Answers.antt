@@ -6,14 +6,14 @@ use Rattle.task_steps.proofs.Along.{runs_along}
 use Rattle.task_steps.proofs.Readings.{push_read}
 use Rattle.task_steps.proofs.task.Task.local.Goals as goal
 
-pub put-requires-clause-runs : goal.put-requires-clause-runs
-put-requires-clause-runs c =
+pub put_place-requires-clause-runs : goal.put_place-requires-clause-runs
+put_place-requires-clause-runs c =
     let code = c.args.code.now in
     let s = c.args.self.now in
-    rw c.of_place.ensures (runs_along code _ _ _ _ (push_read code (here_of code s.conf) s.data' Place (λ d. Some (own_place c.args.at d.frames)) (Some c.own_place-place.result) (ap (λ p. Some p) c.own_place-place.ensures)) c.requires.runs)
+    (runs_along code _ _ _ _ (push_read code (here_of code s.conf) s.data' Place (λ d. Some (own_place c.args.at d.frames)) (Some c.own_place-place.result) (ap (λ p. Some p) c.own_place-place.ensures)) c.requires.runs)
 
 pub returns-clause-goes : goal.returns-clause-goes
 returns-clause-goes c =
     let code = c.args.code.now in
     let s = c.args.self.now in
-    rw (c.put.ensures.next, c.put.ensures.put, c.of_place.ensures) (push_read code (here_of code s.conf) s.data' Place (λ d. Some (own_place c.args.at d.frames)) (Some c.own_place-place.result) (ap (λ p. Some p) c.own_place-place.ensures))
+    rw (c.put_place.ensures.next, c.put_place.ensures.put) (push_read code (here_of code s.conf) s.data' Place (λ d. Some (own_place c.args.at d.frames)) (Some c.own_place-place.result) (ap (λ p. Some p) c.own_place-place.ensures))

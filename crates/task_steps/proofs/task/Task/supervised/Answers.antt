@@ -15,11 +15,15 @@ pub returns-in-ZoneFull-clause-turns : goal.returns-in-ZoneFull-clause-turns
 unfolding after
 returns-in-ZoneFull-clause-turns c = λ code. rw c.in-ZoneFull.is (record { same = λ left. refl })
 
+pub returns-in-Tied-clause-turns : goal.returns-in-Tied-clause-turns
+unfolding after
+returns-in-Tied-clause-turns c = λ code. rw c.in-Tied.is (record { same = λ left. refl })
+
 pub returns-in_default : goal.returns-in_default
 returns-in_default c =
     let s = c.args.self.now in
     record {
       phase = refl;
       room = refl;
-      turns = λ code. not_supervised code (here_of code s.conf) s.data' c.args.place c.args.answer c.in_default.not-Number c.in_default.not-ZoneUsed c.in_default.not-ZoneFull;
+      turns = λ code. not_supervised code (here_of code s.conf) s.data' c.args.place c.args.answer c.in_default.not-Number c.in_default.not-ZoneUsed c.in_default.not-ZoneFull c.in_default.not-Tied;
     }

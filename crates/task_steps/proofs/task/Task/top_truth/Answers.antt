@@ -1,8 +1,12 @@
-use Rattle.task_steps.proofs.InPlace.{truth_none, truth_on}
+use Rattle.std.proofs.Common.{◌≡◌, ap, ◌∙◌, slice_get}
+use Rattle.std.specs.Option.{option_and_then}
+use Rattle.machine_stacks.specs.Forms.{as_bool}
+use Rattle.task_steps.specs.Seen.{Seen}
+use Rattle.task_steps.proofs.Found.{some_top, truth_popped}
 use Rattle.task_steps.proofs.task.Task.top_truth.Goals as goal
 
-pub returns-in_err-value-clause-on : goal.returns-in_err-value-clause-on
-returns-in_err-value-clause-on c = λ next. rw c.from_residual.ensures (truth_none c.args.self.now.conf.stack next c.in_err-value.ensures)
-
-pub returns-clause-on : goal.returns-clause-on
-returns-clause-on c = λ next. truth_on c.args.self.now.conf.stack c.in_ok-value.value.now c.truth_of.result next c.in_ok-value.ensures c.truth_of.ensures
+pub returns : goal.returns
+returns c =
+    let stack = c.args.self.now.conf.stack in
+    let there = c.truth.ensures ∙ ap (λ (s : Seen). option_and_then as_bool (slice_get s.conf.stack 0)) c.self.view_is in
+    record { some = some_top as_bool stack c.truth.result there; on = λ next. truth_popped stack c.truth.result next there }

@@ -1,0 +1,8 @@
+-- The tasks ask what their trees ask.
+use Rattle.std.proofs.Common.{map}
+use Rattle.typed_trees.specs.Views.{view_tree}
+use Rattle.rapid_meaning.specs.Asking.{tree_asks}
+use Rattle.controller.proofs.audit_cell.audit_events.Given as goal
+
+abbrev pub ghosts-audit_history : goal.ghosts-audit_history
+ghosts-audit_history g a = record { asks = tree_asks (map view_tree a.trees.now) }

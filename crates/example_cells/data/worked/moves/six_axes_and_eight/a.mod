@@ -1,0 +1,5 @@
+MODULE M
+PROC main()
+MoveAbsJ [[1,0,0,0,0,0],[1,2,9E9,9E9,9E9,9E9]]\NoEOffs, v1000, fine, tool0;
+ENDPROC
+ENDMODULE

@@ -1,0 +1,6 @@
+MODULE M
+PROC main()
+WaitDO do_lamp, 1;
+TPWrite "set";
+ENDPROC
+ENDMODULE

@@ -1,0 +1,3 @@
+pub mod Wrongs
+pub mod Audits
+pub mod Followed

@@ -1,0 +1,5 @@
+pub mod Put
+pub mod Steps
+pub mod Same
+pub mod Depths
+pub mod Written

@@ -1,0 +1,13 @@
+pub mod Lines
+pub mod Sides
+pub mod Distances
+pub mod Gaps
+pub mod Certificates
+pub mod Premises
+pub mod Levels
+pub mod SideLines
+pub mod Pairs
+pub mod Arrivals
+pub mod Claims
+pub mod Crossings
+pub mod Reaches

@@ -1,0 +1,155 @@
+"""`show CELL`: a run of a cell as a page for a browser."""
+import base64
+import json
+import re
+import zlib
+from pathlib import Path
+from typing import Any, Dict, Iterator, List, Tuple
+
+from . import explain, program, script
+from .coverage import Coverage
+from .history import end_of
+from .listing import Listing
+from .places import PAGE
+from .program import Answer, Program
+from .say import NOT_PRINTED, REFUSED, say
+from .tables import plain
+from .texts import read_cell
+from .timeline import KINDS, Column, Timeline, bytes_of
+from .trace import NO_TRACE, Place, Reader
+
+SCRIPTS = ("run.js", "view.js", "rows.js", "charts.js", "picture.js", "texts.js", "page.js")
+# The types of columns; one of bytes has none.
+TYPES = {"I": "u32", "i": "i32"}
+PART = re.compile(r"\{(style|cell|columns|script)\}")
+# The line of a page by which `show` knows its own.
+MARK = b'<meta name="generator" content="rapid_cell show">'
+HEAD = 1024
+
+
+class Shown:
+    """A run to be shown: its events as columns, its counts by line if the program traces it, and how its tasks ended."""
+
+    def __init__(self, file: Path, listing: Listing) -> None:
+        self.file, self.listing = file, listing
+        self.cell = read_cell(file)
+        self.script = script.parse(self.cell.text)
+        self.timeline = Timeline(self.script)
+        self.coverage = Coverage(self.cell)
+        self.reader = Reader(it.name for it in self.cell.modules)
+        self.has_places = False
+        self.ends: List[str] = []
+
+    def take(self, lines: Iterator[str]) -> None:
+        for line in lines:
+            if line.startswith("E "):
+                self.ends.append(end_of(line)[1])
+            else:
+                traced = self.reader.read(line)
+                self.has_places = self.has_places or traced.place is not None
+                self.timeline.take(traced)
+                self.coverage.take(traced)
+
+
+def write_page(found: Program, name: bytes, file: Path, action: bytes, page: Path) -> Answer:
+    """Runs the cell, and writes the page, whose name is the answer. The status is the program's, unless the page is not written."""
+    if not may_be_written(page):
+        say(f"{page} is there and is no page of show: remove it, or give another name with -o")
+        return Answer(REFUSED, b"", b"")
+    lines: List[str] = []
+    listed = program.read(found, [b"list", name], lines.extend)
+    if listed.status:
+        return listed
+    shown = Shown(file, Listing(lines))
+    answer = program.read(found, [b"trace", name], shown.take) if action == b"round" else None
+    if answer is None or answer.err == NO_TRACE:
+        answer = program.read(found, [action, name, b"--history"], shown.take)
+    if len(shown.ends) < len(shown.script.tasks):
+        return answer
+    try:
+        page.write_text(page_of(shown, action.decode()), encoding="utf-8")
+    except OSError as error:
+        say(f"{page} could not be written ({error.strerror})")
+        return Answer(NOT_PRINTED, b"", answer.err)
+    return Answer(answer.status, f"{page}\n".encode("utf-8", "surrogateescape"), answer.err)
+
+
+def page_for(file: Path) -> Path:
+    """The page of a cell, in the current folder: named as the script's folder, or as the script if that is not a `cell.toml`."""
+    name = file.resolve().parent.name if file.name == "cell.toml" else file.stem
+    return Path(f"{name or 'cell'}.html")
+
+
+def may_be_written(page: Path) -> bool:
+    """Whether nothing is at a page's place but an earlier page."""
+    try:
+        with page.open("rb") as text:
+            return MARK in text.read(HEAD)
+    except FileNotFoundError:
+        return True
+    except OSError:
+        return False
+
+
+def page_of(shown: Shown, action: str) -> str:
+    columns = shown.timeline.columns()
+    packed = base64.b64encode(zlib.compress(b"".join(bytes_of(it) for _, it in columns), 6)).decode()
+    cell = json.dumps(facts_of(shown, action, columns), separators=(",", ":")).replace("<", "\\u003c")
+    parts = {
+        "style": (PAGE / "page.css").read_text(encoding="utf-8"),
+        "cell": cell,
+        "columns": packed,
+        "script": "\n".join((PAGE / it).read_text(encoding="utf-8") for it in SCRIPTS),
+    }
+    return PART.sub(lambda part: parts[part[1]], (PAGE / "page.html").read_text(encoding="utf-8"))
+
+
+def facts_of(shown: Shown, action: str, columns: List[Tuple[str, Column]]) -> Dict[str, Any]:
+    """What the page knows of the cell besides the columns."""
+    timeline, names = shown.timeline, shown.listing.names
+    modules = list(shown.coverage.modules)
+    return {
+        "title": str(shown.file),
+        "action": action,
+        "kinds": KINDS,
+        "hasPlaces": shown.has_places,
+        "tasks": [
+            {"name": it.name, "start": it.arm or [], "fate": fate, "cause": cause_of(fate)}
+            for it, fate in zip(shown.script.tasks, shown.ends)
+        ],
+        "signals": [{"name": it.name, "kind": it.kind, "start": it.start} for it in shown.script.signals],
+        "persistents": names["P"],
+        "meetings": names["G"],
+        "zoneNames": [it.name for it in shown.script.zones],
+        "inputs": [[it.signal, it.value] for it in shown.script.inputs],
+        "stored": [stored_name(path, names["P"]) for path in timeline.stored],
+        "zones": [it.row() for it in timeline.spans],
+        "places": [[modules.index(it.module), it.row, it.column, is_handler(shown, it)] for it in timeline.place_numbers],
+        "modules": [module_of(shown, name) for name in modules],
+        "columns": [[name, TYPES[it.typecode] if not isinstance(it, bytearray) else "u8", len(it)] for name, it in columns],
+    }
+
+
+def cause_of(fate: str) -> str:
+    """Why a task ends so, by the documents."""
+    first, _, fault = fate.partition(" ")
+    rows = explain.rows_for(fault.split()[0] if first == "Fault" else first)
+    return next((plain(cause) for cause in (it.get("Cause") for it in rows) if cause), "")
+
+
+def stored_name(path: str, names: List[str]) -> str:
+    """A path such as P2{3}.rax_1 with the name of its persistent."""
+    found = re.match(r"P(\d+)", path)
+    return names[int(found[1])] + path[found.end() :] if found else path
+
+
+def is_handler(shown: Shown, place: Place) -> bool:
+    """Whether a place is in an ERROR part."""
+    entry = shown.coverage.entry(place)
+    return entry is not None and entry.is_handler
+
+
+def module_of(shown: Shown, name: str) -> Dict[str, Any]:
+    module = shown.coverage.modules[name]
+    counts: Dict[int, int] = module.rows() if shown.has_places else {}
+    return {"name": name, "text": module.text.decode("utf-8", "replace"), "counts": counts}
