@@ -28,17 +28,25 @@ impl Random {
         (self.state >> 33) % limit
     }
 
-    /// A segment and a zone of some axes. Small angles give many equal lines, and great ones those at the limits.
+    /// A segment and a zone of some axes.
     pub(crate) fn case(&mut self) -> Option<Case> {
-        let spread = match self.below(4) {
+        let spread = self.spread();
+        let zero = Num::new(0)?;
+        let p = self.joints(zero, spread)?;
+        let q = self.joints(zero, spread)?;
+        let bound = self.bound(spread)?;
+        let shape = self.shape(bound, spread)?;
+        Case::new(p, q, shape)
+    }
+
+    /// How great the angles are. Small ones give many equal lines, and great ones those at the limits.
+    fn spread(&mut self) -> u32 {
+        match self.below(4) {
             0 => 3,
             1 => 40,
             2 => 20_000,
             _ => 100_000_000,
-        };
-        let (p, q) = (self.joints(spread)?, self.joints(spread)?);
-        let shape = self.shape(spread)?;
-        Case::new(p, q, shape)
+        }
     }
 
     /// A side of one of the first thirteen axes; no arm has the last of them.
@@ -56,20 +64,23 @@ impl Random {
         Num::new(above - i64::from(spread))
     }
 
-    fn joints(&mut self, spread: u32) -> Option<Joints> {
-        let mut axis = [Num::new(0)?; 12];
+    fn joints(&mut self, start: Num, spread: u32) -> Option<Joints> {
+        let mut axis = [start; 12];
         for number in 0..12 {
             axis[number] = self.angle(spread)?;
         }
         Some(Joints { axis })
     }
 
-    fn shape(&mut self, spread: u32) -> Option<Shape> {
+    /// A zone that names some axis, by this bound, and perhaps others.
+    fn shape(&mut self, bound: Bound, spread: u32) -> Option<Shape> {
         let inside = self.below(2) == 0;
         let most = self.below(12) as usize;
         let mut bounds = [None; 12];
         for number in 0..12 {
-            if number == most || self.below(12) as usize <= most {
+            if number == most {
+                bounds[number] = Some(bound);
+            } else if self.below(12) as usize <= most {
                 bounds[number] = Some(self.bound(spread)?);
             }
         }

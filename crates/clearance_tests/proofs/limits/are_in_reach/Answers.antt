@@ -20,7 +20,7 @@ loop-axis-preserved c =
             (get_or_default p.axis axis w.index-p-axis.result (pos 0) (omega arith))
             (get_or_default q.axis axis w.index-q-axis.result (pos 0) (omega arith))
             c.loop-axis.invariant.so_far
-            (w.if-not-axis_is_in_reach.ensures w.if-not-axis_is_in_reach.false);
+            (w.if-not-axis_is_in_reach.ensures refl);
       }
       | in_default w ↦ record { so_far = reach_skip axis bounds p q (element_at bounds axis _ _ inside w.in_default.is) c.loop-axis.invariant.so_far }
     ]
