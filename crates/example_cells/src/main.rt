@@ -21,27 +21,41 @@ fn main(rt: HostRuntime) -> anyhow::Result<()> {
     for line in rt.lines(rt.alloc()) {
         let line = line?;
         let (action, example) = line.as_str().split_once(' ').context("two words a line")?;
-        let agrees = match action {
-            "audit" => passes(&rt, "round", example)? && passes(&rt, "run", example)?,
-            _ => is_as_kept(&rt, action, example)?,
-        };
-        if agrees {
-            println!(rt; "{action} {example}")?;
+        match difference(&rt, action, example)? {
+            None => println!(rt; "{action} {example}")?,
+            Some(got) => println!(rt;
+                "{action} {example} differs:\n{}",
+                got.as_slice().escape_ascii()
+            )?,
         }
     }
     Ok(())
 }
 
-/// Whether an action on an example ends and prints as kept with the example. If not, prints what it does.
-fn is_as_kept(rt: &HostRuntime, action: &str, example: &str) -> anyhow::Result<bool> {
-    let kept = format!(in rt.alloc(); "{example}/{action}.txt")?;
-    let wanted = fs::read(rt, kept.as_str())?;
-    let got = run(rt, action, example)?;
-    compare(rt, action, example, got.as_slice(), wanted.as_slice())
+/// What an action on an example does, if it is not what is wanted.
+fn difference<R: Files + AllocGlobal + Threads + Wait + Sync>(
+    rt: &R,
+    action: &str,
+    example: &str,
+) -> anyhow::Result<Option<Vec<u8>>> {
+    if action != "audit" {
+        let kept = format!(in rt.alloc(); "{example}/{action}.txt")?;
+        let wanted = fs::read(rt, kept.as_str())?;
+        let got = run(rt, action, example)?;
+        return Ok(unless_same(got, wanted.as_slice()));
+    }
+    match refused_audit(rt, "round", example)? {
+        None => refused_audit(rt, "run", example),
+        got => Ok(got),
+    }
 }
 
-/// Whether the whole history that an action prints of an example is found legal and whole. If not, prints what is found.
-fn passes(rt: &HostRuntime, action: &str, example: &str) -> anyhow::Result<bool> {
+/// What an audit of the whole history that an action prints of an example finds, if that is not legal and whole.
+fn refused_audit<R: Files + AllocGlobal + Threads + Wait + Sync>(
+    rt: &R,
+    action: &str,
+    example: &str,
+) -> anyhow::Result<Option<Vec<u8>>> {
     let script = format!(in rt.alloc(); "{example}/cell.toml")?;
     let script = script.as_str();
     print_history(rt, action, script)?;
@@ -49,11 +63,15 @@ fn passes(rt: &HostRuntime, action: &str, example: &str) -> anyhow::Result<bool>
     let wanted = format!(in rt.alloc(); "status 0\nA legal {events} whole\n")?;
     let got = told_by(rt, &["audit", script, PRINTED], script, true)?;
     fs::remove_file(rt, PRINTED)?;
-    compare(rt, "audit", example, got.as_slice(), wanted.as_bytes())
+    Ok(unless_same(got, wanted.as_bytes()))
 }
 
 /// Writes the whole history that an action prints into the file that is audited.
-fn print_history(rt: &HostRuntime, action: &str, script: &str) -> anyhow::Result<()> {
+fn print_history<R: Files + AllocGlobal + Threads + Wait + Sync>(
+    rt: &R,
+    action: &str,
+    script: &str,
+) -> anyhow::Result<()> {
     let mut shelf = FileShelf::new(rt, script);
     let mut out = StreamSink::new(fs::create(rt, PRINTED)?);
     let mut err = MemorySink::new(rt.alloc(), ROOM, Vec::new(rt.alloc()))
@@ -79,23 +97,17 @@ fn lines_of_events(text: &[u8]) -> usize {
         .count()
 }
 
-/// Whether an action told what is wanted. If not, prints what it told.
-fn compare(
-    rt: &HostRuntime,
-    action: &str,
-    example: &str,
-    got: &[u8],
-    wanted: &[u8],
-) -> anyhow::Result<bool> {
-    if got == wanted {
-        return Ok(true);
-    }
-    println!(rt; "{action} {example} differs:\n{}", got.escape_ascii())?;
-    Ok(false)
+/// What was told, if it is not what is wanted.
+fn unless_same(got: Vec<u8>, wanted: &[u8]) -> Option<Vec<u8>> {
+    if got.as_slice() == wanted { None } else { Some(got) }
 }
 
 /// The status of an action on an example and what it prints, as kept with the examples.
-fn run(rt: &HostRuntime, action: &str, example: &str) -> anyhow::Result<Vec<u8>> {
+fn run<R: Files + AllocGlobal + Threads + Wait + Sync>(
+    rt: &R,
+    action: &str,
+    example: &str,
+) -> anyhow::Result<Vec<u8>> {
     let script = format!(in rt.alloc(); "{example}/cell.toml")?;
     let script = script.as_str();
     match action {

@@ -23,7 +23,7 @@ pub fn one_task(alloc: Global) -> Result<Vec<TaskRow>, AllocError>
     let task = TaskRow {
         name: name(),
         arm: None,
-        axes: 0,
+        axes: 6,
     };
     Ok(vec![in alloc; task]?)
 }

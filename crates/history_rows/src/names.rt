@@ -25,7 +25,7 @@ fn task(letter: u8) -> TaskRow
     TaskRow {
         name: name(letter),
         arm: None,
-        axes: 0,
+        axes: 6,
     }
 }
 

@@ -51,7 +51,22 @@ static WRONG: [(Changed, &[u8]); 12] = [
         ),
         b"A event 2 answers TRUE\n",
     ),
-    ((6, &[b"H B Rise > Ok\n"], 6), b"A event 6 waits\n"),
+    // The lock was taken before the second task looked, and nothing has changed since.
+    (
+        (
+            0,
+            &[
+                b"H A Look > Go 0\n",
+                b"H A TestSet P0 > TRUE\n",
+                b"H B Look > Go 1\n",
+                b"H B TestSet P0 > FALSE\n",
+                b"H B Hold 1 > Ok\n",
+                b"H B Rise > Ok\n",
+            ],
+            16,
+        ),
+        b"A event 5 waits\n",
+    ),
     // An event is missing.
     ((0, &[], 1), b"A event 1 asks Look\n"),
     ((4, &[], 5), b"A event 5 asks Look\n"),
@@ -121,7 +136,7 @@ fn changed(alloc: Global, change: &Changed) -> Result<Vec<u8>, AllocError> {
     Ok(text)
 }
 
-/// The whole history, and its first lines.
+/// The whole history, the same with an early Rise, and its first lines.
 #[test]
 fn a_printed_history(rt: HostRuntime) -> Result<(), Fail> {
     let alloc = rt.alloc();
@@ -129,6 +144,10 @@ fn a_printed_history(rt: HostRuntime) -> Result<(), Fail> {
     finds(&rt, alloc, TWO_TASKS, whole, 0, b"A legal 14 whole\n")?;
     let events = changed(alloc, &(14, &[], 16))?;
     finds(&rt, alloc, TWO_TASKS, events, 0, b"A legal 14 whole\n")?;
+    // The second task looked before the lock was taken, so it may rise before the lock is released.
+    let early: Changed = (6, &[b"H B Rise > Ok\n", b"H A WriteP P0 FALSE > Ok\n"], 8);
+    let early = changed(alloc, &early)?;
+    finds(&rt, alloc, TWO_TASKS, early, 0, b"A legal 14 whole\n")?;
     let front = changed(alloc, &(5, &[], 16))?;
     finds(&rt, alloc, TWO_TASKS, front, 0, b"A legal 5 open\n")?;
     finds(

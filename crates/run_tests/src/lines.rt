@@ -22,7 +22,7 @@ fn event_line(request: Request, answer: Answer) -> ArrayString<1200> {
     let task = TaskRow {
         name: letter_a(),
         arm: None,
-        axes: 0,
+        axes: 6,
     };
     let event = Event {
         actor: 0,
