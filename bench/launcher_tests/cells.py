@@ -1,5 +1,6 @@
 """Every example and every module of the documents, with what it has to answer."""
 import re
+import shutil
 import subprocess
 import tempfile
 from pathlib import Path
@@ -160,6 +161,23 @@ def free_names(folder, rows):
     data = "".join(f"VAR num {it};\n" for it in names)
     script = write_cell(folder, "free_names", f"MODULE Free\n{data}PROC main()\nENDPROC\nENDMODULE\n")
     return Case("names that mean nothing", "check", script, (0, "accepted\n"))
+
+
+def try_migrated():
+    """A script in version 2 has the lines of the old one."""
+    started = program().file
+    with tempfile.TemporaryDirectory() as folder:
+        for name in ("first_move", "press_cell", "track"):
+            place = Path(folder, name)
+            shutil.copytree(EXAMPLES / name, place)
+            script = place / "cell.toml"
+            how = {"stdin": subprocess.DEVNULL, "stdout": subprocess.PIPE, "stderr": subprocess.PIPE}
+            before = subprocess.run([started, "round", script], **how)
+            ran = subprocess.run([started, "migrate", script], **how)
+            compare(f"migrate {name}", (ran.returncode, b"version = 2\n" in ran.stdout, ran.stderr), (0, True, b""))
+            script.write_bytes(ran.stdout)
+            after = subprocess.run([started, "round", script], **how)
+            compare(f"round of {name} in version 2", (after.returncode, after.stdout, after.stderr), (before.returncode, before.stdout, before.stderr))
 
 
 def try_stored_runs():

@@ -15,15 +15,15 @@ abbrev pub owner_text : List TaskRow → Option ℕ → List ℕ
 owner_text tasks None = codes "*"
 owner_text tasks (Some task) = task_name tasks task
 
--- the length of an array in braces
-abbrev pub length_text : Option ℕ → List ℕ
-length_text None = []
-length_text (Some len) = 123 ∷ decimal len ++ 125 ∷ []
+-- a number in braces: the length of an array, or the number of one of its elements
+abbrev pub in_braces : Option ℕ → List ℕ
+in_braces None = []
+in_braces (Some number) = 123 ∷ decimal number ++ 125 ∷ []
 
 -- P and the number, the owner, the type, and the name
 abbrev pub pers_line : List TaskRow → ℕ → PersCell → List ℕ
 pers_line tasks number row =
-    codes "P" ++ (decimal number ++ (32 ∷ owner_text tasks row.owner ++ (32 ∷ sort_text row.sort ++ (length_text row.len ++ (32 ∷ row.name ++ codes "\n")))))
+    codes "P" ++ (decimal number ++ (32 ∷ owner_text tasks row.owner ++ (32 ∷ sort_text row.sort ++ (in_braces row.len ++ (32 ∷ row.name ++ codes "\n")))))
 
 abbrev pub kind_text : Bool → List ℕ
 kind_text true = codes "do"

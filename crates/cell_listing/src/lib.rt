@@ -17,6 +17,6 @@ pub use listing::listing_line;
 pub use meetings::write_meeting;
 pub use op_rooms::OPERATION_BYTES;
 pub use operations::write_operation;
-pub use persistents::write_persistent;
+pub use persistents::{push_in_braces, push_owner, write_persistent};
 pub use rooms::LINE_BYTES;
 pub use signals::write_signal;

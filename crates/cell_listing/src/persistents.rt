@@ -1,7 +1,7 @@
 //! The lines of persistents.
 
 ghost use Rattle.std.specs.Prelude.{◌≡◌, ◌+◌, ◌≤◌, ◌++◌, [], length};
-ghost use Rattle.cell_listing.specs.Listing.{length_text, owner_text, pers_line};
+ghost use Rattle.cell_listing.specs.Listing.{in_braces, owner_text, pers_line};
 
 use crate::rooms::LINE_BYTES;
 use arrayvec::ArrayString;
@@ -26,15 +26,15 @@ pub fn write_persistent(
     push_owner(tasks, row.owner, line);
     line.push(' ');
     line.push_str(sort_name(row.sort));
-    push_length(row.len, line);
+    push_in_braces(number_of(row.len), line);
     line.push(' ');
     push_name(&row.name, line);
     line.push('\n');
 }
 
-/// Appends the owner of a persistent.
-fn push_owner(tasks: &[TaskRow], owner: Option<u32>, line: &mut ArrayString<LINE_BYTES>)
-    requires room { length line.old.bytes + LONGEST_NAME ≤ LINE_BYTES }
+/// Appends the owner of a persistent: a task, or `*` if all tasks share it.
+pub fn push_owner<const N: usize>(tasks: &[TaskRow], owner: Option<u32>, line: &mut ArrayString<N>)
+    requires room { length line.old.bytes + LONGEST_NAME ≤ N }
     ensures text { line.new.bytes ≡ line.old.bytes ++ owner_text tasks.now owner }
     ensures short { length line.new.bytes ≤ length line.old.bytes + LONGEST_NAME }
 {
@@ -48,15 +48,25 @@ fn push_owner(tasks: &[TaskRow], owner: Option<u32>, line: &mut ArrayString<LINE
     }
 }
 
-/// Appends the length of an array.
-fn push_length(len: Option<u16>, line: &mut ArrayString<LINE_BYTES>)
-    requires room { length line.old.bytes + COUNT_BYTES + 2 ≤ LINE_BYTES }
-    ensures text { line.new.bytes ≡ line.old.bytes ++ length_text len }
+/// Appends a number in braces, if there is one: the length of an array, or the number of one of its elements.
+pub fn push_in_braces<const N: usize>(number: Option<usize>, line: &mut ArrayString<N>)
+    requires room { length line.old.bytes + COUNT_BYTES + 2 ≤ N }
+    ensures text { line.new.bytes ≡ line.old.bytes ++ in_braces number }
     ensures short { length line.new.bytes ≤ length line.old.bytes + COUNT_BYTES + 2 }
 {
-    if let Some(len) = len {
+    if let Some(number) = number {
         line.push('{');
-        push_count(usize::from(len), line);
+        push_count(number, line);
         line.push('}');
+    }
+}
+
+/// The length of an array as a number.
+fn number_of(len: Option<u16>) -> Option<usize>
+    ensures { result ≡ len }
+{
+    match len {
+        None => None,
+        Some(len) => Some(usize::from(len)),
     }
 }

@@ -4,7 +4,7 @@ use Rattle.std.specs.Prelude.{codes, Some, None}
 use Rattle.std.specs.Fmt.{digits}
 use Rattle.std.proofs.lemmas.Str.{IsUtf8-from_ascii}
 use Rattle.command_words.specs.declared.command.Action.TheVariants as actions
-use Rattle.command_words.specs.Words.{asked, is_run, refused_place}
+use Rattle.command_words.specs.Words.{asked, is_migrate, is_run, refused_place}
 use Rattle.command_words.proofs.Texts.{text_names}
 
 -- words that ask for `run`, refused or not, and others
@@ -19,6 +19,19 @@ run_as_name = refl
 
 no_words : is_run [] ≡ false
 no_words = refl
+
+-- the same of `migrate`, whose name is one word
+migrate_cell : is_migrate (codes "migrate" ∷ codes "c" ∷ []) ≡ true
+migrate_cell = refl
+
+migrate_as_name : is_migrate (codes "check" ∷ codes "migrate" ∷ []) ≡ false
+migrate_as_name = refl
+
+migration : asked (codes "migrate" ∷ codes "--history" ∷ codes "c" ∷ []) ≡ Some actions.Migrate
+migration = refl
+
+migrate_without : refused_place (codes "migrate" ∷ []) ≡ Some 1
+migrate_without = refl
 
 -- `--history` before or after the other words; it changes no load
 whole_round : asked (codes "--history" ∷ codes "round" ∷ codes "c" ∷ []) ≡ Some (actions.Round true)
@@ -80,3 +93,17 @@ no_text_action = refl
 
 no_text_before : refused_place (codes "round" ∷ (255 ∷ []) ∷ codes "more" ∷ []) ≡ Some 2
 no_text_before = refl
+
+-- `clearance` takes two
+clearance_asked : asked (codes "clearance" ∷ codes "c" ∷ []) ≡ Some actions.Clearance
+clearance_asked = refl
+
+clearance_too_many : refused_place (codes "clearance" ∷ codes "c" ∷ codes "h" ∷ []) ≡ Some 2
+clearance_too_many = refl
+
+-- so does `state`
+state_asked : asked (codes "state" ∷ codes "c" ∷ codes "h" ∷ []) ≡ Some actions.State
+state_asked = refl
+
+state_without : refused_place (codes "state" ∷ codes "c" ∷ []) ≡ Some 2
+state_without = refl

@@ -38,11 +38,15 @@ verb_of word =
     else if bytes_eq word (codes "list") then Some verbs.List
     else if bytes_eq word (codes "load") then Some verbs.Load
     else if bytes_eq word (codes "audit") then Some verbs.Audit
+    else if bytes_eq word (codes "state") then Some verbs.State
+    else if bytes_eq word (codes "migrate") then Some verbs.Migrate
+    else if bytes_eq word (codes "clearance") then Some verbs.Clearance
     else None
 
 -- how many words an action has, its own among them
 abbrev pub word_count : Verb → ℕ
 word_count verbs.Audit = 3
+word_count verbs.State = 3
 word_count _ = 2
 
 -- the word is this number, in digits without leading zeros, and an arm of the load cell may move so often
@@ -66,6 +70,9 @@ action_of verbs.Run full word = Some (actions.Run full)
 action_of verbs.List full word = Some actions.List
 action_of verbs.Load full word = option_map (λ moves. actions.Load moves) (moves_of word)
 action_of verbs.Audit full word = Some actions.Audit
+action_of verbs.State full word = Some actions.State
+action_of verbs.Migrate full word = Some actions.Migrate
+action_of verbs.Clearance full word = Some actions.Clearance
 
 -- the action and its words
 abbrev pub plain_words : List (List ℕ) → List (List ℕ)
@@ -105,6 +112,14 @@ begins_with_run (action ∷ rest) = bytes_eq action (codes "run")
 abbrev pub is_run : List (List ℕ) → Bool
 is_run words = begins_with_run (plain_words words)
 
+-- the same for `migrate`
+abbrev pub begins_with_migrate : List (List ℕ) → Bool
+begins_with_migrate [] = false
+begins_with_migrate (action ∷ rest) = bytes_eq action (codes "migrate")
+
+abbrev pub is_migrate : List (List ℕ) → Bool
+is_migrate words = begins_with_migrate (plain_words words)
+
 -- the position of the action, if it is unknown
 abbrev pub unknown_action : List (List ℕ) → Option ℕ
 unknown_action words = if is_some (first_verb (plain_words words)) then None else slice_get (places is_plain 0 words) 0
@@ -133,7 +148,7 @@ wrong_word words =
 abbrev pub script_name : List (List ℕ) → List ℕ
 script_name words = second_word (plain_words words)
 
--- the name of the history's file, for `audit`
+-- the name of the history's file, for `audit` and `state`
 abbrev pub history_name : List (List ℕ) → List ℕ
 history_name words = third_word (plain_words words)
 

@@ -1,5 +1,5 @@
 ghost use Rattle.std.specs.Prelude.{◌≡◌, ◌⊎◌, [], IfOk, IfErr, Some, None, map, position, filter, slice_get, option_map, codes, bytes_eq};
-ghost use Rattle.command_words.specs.Words.{begins_with_minus, is_history, is_plain, is_wrong_option, places, plain_words, verb_of, action_of, has_history, history_name, asked, is_run, wrong_count, wrong_word, refused_place, script_name};
+ghost use Rattle.command_words.specs.Words.{begins_with_minus, is_history, is_plain, is_wrong_option, places, plain_words, verb_of, action_of, has_history, history_name, asked, is_migrate, is_run, wrong_count, wrong_word, refused_place, script_name};
 ghost use Rattle.command_words.specs.Picked.{is_kind};
 
 use crate::moves::moves_of;
@@ -21,6 +21,12 @@ pub enum Action {
     Load { moves: u32 },
     /// Checks whether a printed history is one that the cell can have.
     Audit,
+    /// Prints the state of the cell after a printed history.
+    State,
+    /// Prints the script in version 2.
+    Migrate,
+    /// Runs the cell round-robin and prints how near each arm came to each of its cell zones.
+    Clearance,
 }
 
 /// The word of an action.
@@ -32,10 +38,13 @@ pub(crate) enum Verb {
     List,
     Load,
     Audit,
+    State,
+    Migrate,
+    Clearance,
 }
 
-/// The action, and the name of the script's file; for `load`, the word of its number instead. For `audit` also the name
-/// of the history's file, which is empty otherwise.
+/// The action, and the name of the script's file; for `load`, the word of its number instead. For `audit` and `state` also
+/// the name of the history's file, which is empty otherwise.
 #[derive(Clone, Copy, Debug)]
 pub struct Command<'a> {
     pub action: Action,
@@ -131,7 +140,7 @@ fn second_word<W: AsSlice<u8>>(words: &[W], verb: Verb) -> Result<(usize, &[u8])
     };
     let third = nth_word(words, false, 2);
     match verb {
-        Verb::Audit => {
+        Verb::Audit | Verb::State => {
             if third.is_none() {
                 return Err(words.len());
             }
@@ -164,6 +173,16 @@ pub fn is_run<W: AsSlice<u8>>(words: &[W]) -> bool
 {
     match nth_word(words, false, 0) {
         Some((_, word)) => word == b"run".as_slice(),
+        None => false,
+    }
+}
+
+/// The same for `migrate`.
+pub fn is_migrate<W: AsSlice<u8>>(words: &[W]) -> bool
+    ensures { result ≡ is_migrate (map W.items words.now) }
+{
+    match nth_word(words, false, 0) {
+        Some((_, word)) => word == b"migrate".as_slice(),
         None => false,
     }
 }
@@ -249,6 +268,12 @@ fn verb_of(word: &[u8]) -> Option<Verb>
         Some(Verb::Load)
     } else if word == b"audit".as_slice() {
         Some(Verb::Audit)
+    } else if word == b"state".as_slice() {
+        Some(Verb::State)
+    } else if word == b"migrate".as_slice() {
+        Some(Verb::Migrate)
+    } else if word == b"clearance".as_slice() {
+        Some(Verb::Clearance)
     } else {
         None
     }
@@ -265,5 +290,8 @@ fn action_of(verb: Verb, full: bool, second: &[u8]) -> Option<Action>
         Verb::List => Some(Action::List),
         Verb::Load => moves_of(second).map(|moves| Action::Load { moves }),
         Verb::Audit => Some(Action::Audit),
+        Verb::State => Some(Action::State),
+        Verb::Migrate => Some(Action::Migrate),
+        Verb::Clearance => Some(Action::Clearance),
     }
 }

@@ -5,4 +5,4 @@
 mod command;
 mod moves;
 
-pub use command::{Action, Command, is_run, read_words};
+pub use command::{Action, Command, is_migrate, is_run, read_words};

@@ -22,8 +22,8 @@ use Rattle.history_audit.specs.Audits.{IsAudit}
 use Rattle.history_audit.specs.declared.audit_fault.AuditFault.{AuditFault}
 use Rattle.controller.specs.declared.report.Report.{Report}
 use Rattle.controller.specs.declared.refused.Refused.TheVariants.{History, Write}
-use Rattle.controller.specs.Accepted.{audits, refuses}
-use Rattle.controller.specs.Answered.{AnswersAudit, AnswersHistory, AuditsOrMemory, IsRefused, RanNothing}
+use Rattle.controller.specs.Accepted.{Verdict, audits, refuses}
+use Rattle.controller.specs.Answered.{AnswersAudit, AnswersHistory, AuditsOrMemory, IsRefused, PrintsBy, RanNothing}
 use Rattle.controller.specs.Audits.{audit_line, audit_status}
 use Rattle.controller.specs.Output.{names_in}
 use Rattle.controller.specs.Printed.{Gained, Sunk}
@@ -64,36 +64,37 @@ audit_there asks cell here events fates found audited same = subst (λ (c : Cell
 
 -- what is printed of it
 
-lines_are : (tasks seen : List TaskRow) (count many : ℕ) (found : Result Bool AuditFault) → seen ≡ tasks → count ≡ many → audit_line seen count found ∷ [] ≡ audit_line tasks many found ∷ []
-lines_are tasks seen count many found same number =
-    ap (λ (rows : List TaskRow). audit_line rows count found ∷ []) same ∙ ap (λ (n : ℕ). audit_line tasks n found ∷ []) number
+lines_are : (tasks seen : List TaskRow) (count : ℕ) (found : Result Bool AuditFault) → seen ≡ tasks → audit_line seen count found ∷ [] ≡ audit_line tasks count found ∷ []
+lines_are tasks seen count found same = ap (λ (rows : List TaskRow). audit_line rows count found ∷ []) same
 
-pub audit_printed : (cell : CellData) (trees : List TypedTree) (events : List Event) (fates : List Fate) (found : Result Bool AuditFault) (seen : List TaskRow) (count : ℕ) (report : Report) (out err : Sunk)
-    → seen ≡ cell.tasks → count ≡ length events → IsAudit (with_inputs (tree_asks trees) cell) cell events fates found → RanNothing report → report.refused ≡ None → report.status ≡ audit_status found
-    → WritesAll (audit_line seen count found ∷ []) out → Gained [] err.old.bytes err.new.bytes → AnswersAudit cell trees events fates report out err
-audit_printed cell trees events fates found seen count report out err same number audited nothing none status printed told =
-    let here = subst (λ (lines : List (List ℕ)). WritesAll lines out) (lines_are cell.tasks seen count (length events) found same number) printed in
-    (found, audited, nothing, inl (record { refused_is = none; status_is = status; printed = here.bytes; calls = here.calls; told = told }))
+pub audit_printed : (tasks seen : List TaskRow) (count : ℕ) (found : Result Bool AuditFault) (report : Report) (out err : Sunk) → seen ≡ tasks → report.refused ≡ None → report.status ≡ audit_status found
+    → WritesAll (audit_line seen count found ∷ []) out → Gained [] err.old.bytes err.new.bytes → PrintsBy (audit_status found) (audit_line tasks count found ∷ []) report out err
+audit_printed tasks seen count found report out err same none status printed told =
+    let here = subst (λ (lines : List (List ℕ)). WritesAll lines out) (lines_are tasks seen count found same) printed in
+    inl (record { refused_is = none; status_is = status; printed = here.bytes; calls = here.calls; told = told })
 
-pub audit_cut_short : (cell : CellData) (trees : List TypedTree) (events : List Event) (fates : List Fate) (found : Result Bool AuditFault) (seen : List TaskRow) (count : ℕ) (report : Report) (out err : Sunk)
-    → seen ≡ cell.tasks → count ≡ length events → IsAudit (with_inputs (tree_asks trees) cell) cell events fates found → RanNothing report → report.refused ≡ Some Write → report.status ≡ status_of Write
-    → WritesPart (audit_line seen count found ∷ []) out → TakesLine (refusal_text [] Write) err → AnswersAudit cell trees events fates report out err
-audit_cut_short cell trees events fates found seen count report out err same number audited nothing write status printed told =
-    let here = subst (λ (lines : List (List ℕ)). WritesPart lines out) (lines_are cell.tasks seen count (length events) found same number) printed in
-    (found, audited, nothing, inr (record { refused_is = write; status_is = status; printed = here.bytes; calls = here.calls; told = told }, here.rose))
+pub audit_cut_short : (tasks seen : List TaskRow) (count : ℕ) (found : Result Bool AuditFault) (report : Report) (out err : Sunk) → seen ≡ tasks → report.refused ≡ Some Write → report.status ≡ status_of Write
+    → WritesPart (audit_line seen count found ∷ []) out → TakesLine (refusal_text [] Write) err → PrintsBy (audit_status found) (audit_line tasks count found ∷ []) report out err
+audit_cut_short tasks seen count found report out err same write status printed told =
+    let here = subst (λ (lines : List (List ℕ)). WritesPart lines out) (lines_are tasks seen count found same) printed in
+    inr (record { refused_is = write; status_is = status; printed = here.bytes; calls = here.calls; told = told }, here.rose)
 
 -- the core's cell is the one that is audited
 pub audit_answered : (cell here : CellData) (trees seen : List TypedTree) (events : List Event) (fates : List Fate) (found : Result Bool AuditFault) (report : Report) (out err : Sunk) → here ≡ cell → seen ≡ trees
-    → IsAudit (with_inputs (tree_asks seen) cell) cell events fates found → (IsAudit (with_inputs (tree_asks trees) here) here events fates found → AnswersAudit here trees events fates report out err)
+    → IsAudit (with_inputs (tree_asks seen) cell) cell events fates found → RanNothing report → PrintsBy (audit_status found) (audit_line here.tasks (length events) found ∷ []) report out err
     → AuditsOrMemory cell trees events fates report out err
-audit_answered cell here trees seen events fates found report out err same alike audited answers =
-    let of_trees : IsAudit (with_inputs (tree_asks trees) cell) cell events fates found = subst (λ (ts : List TypedTree). IsAudit (with_inputs (tree_asks ts) cell) cell events fates found) alike audited in
-    let there : IsAudit (with_inputs (tree_asks trees) here) here events fates found = subst (λ (c : CellData). IsAudit (with_inputs (tree_asks trees) c) c events fates found) (sym same) of_trees in
-    inr (subst (λ (c : CellData). AnswersAudit c trees events fates report out err) same (answers there))
+audit_answered cell here trees seen events fates found report out err same alike audited nothing printed =
+    inr (
+      found,
+      subst (λ (ts : List TypedTree). IsAudit (with_inputs (tree_asks ts) cell) cell events fates found) alike audited,
+      nothing,
+      subst (λ (c : CellData). PrintsBy (audit_status found) (audit_line c.tasks (length events) found ∷ []) report out err) same printed,
+    )
 
 -- a text that is a history
 pub history_audited : (text : List ℕ) (names : List (List ℕ)) (made : MadeCell) (named : NamesData) (events seen : List Event) (fates ends : List Fate) (report : Report) (out err : Sunk) → named ≡ names_in made.cell
-    → Spells named text events fates → seen ≡ events → ends ≡ fates → AuditsOrMemory made.cell made.trees seen ends report out err → AnswersHistory text names made report out err
+    → Spells named text events fates → seen ≡ events → ends ≡ fates → AuditsOrMemory made.cell made.trees seen ends report out err
+    → AnswersHistory (audits names made.cell made.trees) text names made.cell report out err
 history_audited text names made named events seen fates ends report out err same spelled one other (inl memory) = inl memory
 history_audited text names made named events seen fates ends report out err same spelled one other (inr answered) =
     let here : AnswersAudit made.cell made.trees events fates report out err =
@@ -106,7 +107,7 @@ history_audited text names made named events seen fates ends report out err same
     )
 
 -- a text that is none
-pub history_refused : (text : List ℕ) (names : List (List ℕ)) (made : MadeCell) (named : NamesData) (line : ℕ) (report : Report) (out err : Sunk) → named ≡ names_in made.cell → IsFirstFault named text line
-    → IsRefused names (History line) report out err → AnswersHistory text names made report out err
-history_refused text names made named line report out err same fault r =
+pub history_refused : (on : List Event → List Fate → Verdict) (text : List ℕ) (names : List (List ℕ)) (cell : CellData) (named : NamesData) (line : ℕ) (report : Report) (out err : Sunk) → named ≡ names_in cell
+    → IsFirstFault named text line → IsRefused names (History line) report out err → AnswersHistory on text names cell report out err
+history_refused on text names cell named line report out err same fault r =
     inr (refuses names (History line), inl (line, subst (λ (n : NamesData). IsFirstFault n text line) same fault, refl), r)

@@ -1,7 +1,7 @@
 -- What a refusal of a file says of the words and the sinks: nothing of the words, of reads what was counted, nothing of
 -- writes.
 use Rattle.std.proofs.Common.{◌≡◌, ◌≢◌, ℕ, ◌≤◌, List, [], ◌∷◌, Some, None, sym, ◌∙◌, subst, inl, inr}
-use Rattle.std.specs.Prelude.{Option, ◌↔◌, IfSome, length}
+use Rattle.std.specs.Prelude.{Bool, Option, Result, Ok, Err, ◌↔◌, IfSome, length}
 use Rattle.std.proofs.lemmas.Option.{IfSome_then}
 use Rattle.outside.specs.Count.{Rose}
 use Rattle.outside.proofs.Counting.{Rose-since}
@@ -9,11 +9,13 @@ use Rattle.rapid_model.specs.CellData.{CellData}
 use Rattle.rapid_model.specs.declared.event.Event.{Event}
 use Rattle.rapid_model.specs.declared.fate.Fate.{Fate}
 use Rattle.typed_trees.specs.Plain.{TypedTree}
+use Rattle.history_audit.specs.declared.audit_fault.AuditFault.{AuditFault}
+use Rattle.state_text.specs.StateLines.{SourcesData, state_lines}
 use Rattle.controller.specs.declared.refused.Refused.{Refused}
 use Rattle.controller.specs.declared.refused.Refused.TheVariants.{Words, Script, Module, Read, Write, Memory, TooLong, History}
 use Rattle.controller.specs.declared.report.Report.{Report}
 use Rattle.controller.specs.declared.shown.Shown.{Shown}
-use Rattle.controller.specs.Answered.{AnswersAccepted, AuditsOrMemory, ListsOrMemory, RunsOrMemory, PrintsBy, accepted_line, run_lines}
+use Rattle.controller.specs.Answered.{AnswersAccepted, AnswersText, AuditsOrMemory, ListsOrMemory, RunsOrMemory, PrintsBy, accepted_line, run_lines, MeasuresOrMemory, measured_lines, ShowsFound, StatesOrMemory}
 use Rattle.controller.specs.Audits.{audit_line, audit_status}
 use Rattle.controller.specs.Files.{IsDoneFault, IsLoadFault}
 use Rattle.controller.specs.Printed.{Sunk}
@@ -74,6 +76,11 @@ pub run_told : (Run : Report → Type 0) (shown : Shown) (cell : CellData) (repo
 run_told Run shown cell report out err (inl memory) = subst (λ (o : Option Refused). IfSome o (IsDoneFault out.old.faults out.new.faults)) (sym memory.refused_is) tt
 run_told Run shown cell report out err (inr answered) = printed_told (run_status cell report.history.items) (run_lines shown cell report) report out err answered.1
 
+-- why a run that is measured is refused
+pub measured_told : (Run : Report → Type 0) (cell : CellData) (report : Report) (out err : Sunk) → MeasuresOrMemory Run cell report out err → IfSome report.refused (IsDoneFault out.old.faults out.new.faults)
+measured_told Run cell report out err (inl memory) = subst (λ (o : Option Refused). IfSome o (IsDoneFault out.old.faults out.new.faults)) (sym memory.refused_is) tt
+measured_told Run cell report out err (inr answered) = printed_told (run_status cell report.history.items) (measured_lines cell report answered.0) report out err answered.3
+
 -- why a list is refused
 pub list_told : (cell : CellData) (trees : List TypedTree) (report : Report) (out err : Sunk) → ListsOrMemory cell trees report out err → IfSome report.refused (IsDoneFault out.old.faults out.new.faults)
 list_told cell trees report out err (inl memory) = subst (λ (o : Option Refused). IfSome o (IsDoneFault out.old.faults out.new.faults)) (sym memory.refused_is) tt
@@ -85,6 +92,21 @@ pub audit_told : (cell : CellData) (trees : List TypedTree) (events : List Event
 audit_told cell trees events fates report out err (inl memory) = subst (λ (o : Option Refused). IfSome o (IsDoneFault out.old.faults out.new.faults)) (sym memory.refused_is) tt
 audit_told cell trees events fates report out err (inr answered) =
     printed_told (audit_status answered.0) (audit_line cell.tasks (length events) answered.0 ∷ []) report out err answered.3
+
+-- why a state is refused
+pub state_told : (cell : CellData) (trees : List TypedTree) (sources : List SourcesData) (events : List Event) (fates : List Fate) (report : Report) (out err : Sunk)
+    → StatesOrMemory cell trees sources events fates report out err → IfSome report.refused (IsDoneFault out.old.faults out.new.faults)
+state_told cell trees sources events fates report out err (inl memory) = subst (λ (o : Option Refused). IfSome o (IsDoneFault out.old.faults out.new.faults)) (sym memory.refused_is) tt
+state_told cell trees sources events fates report out err (inr answered) = by answered.0 answered.3
+  where
+    by : (found : Result Bool AuditFault) → ShowsFound cell trees sources events (λ status lines. PrintsBy status lines report out err) found → IfSome report.refused (IsDoneFault out.old.faults out.new.faults)
+    by (Ok legal) shows = printed_told 0 (state_lines cell trees sources shows.0) report out err shows.2
+    by (Err fault) shows =
+        let found : Result Bool AuditFault = Err fault in printed_told (audit_status found) (audit_line cell.tasks (length events) found ∷ []) report out err shows
+
+-- why a text is refused
+pub text_told : (text : List ℕ) (report : Report) (out err : Sunk) → AnswersText text report out err → IfSome report.refused (IsDoneFault out.old.faults out.new.faults)
+text_told text report out err answered = printed_told 0 (text ∷ []) report out err answered.1
 
 -- why reporting that all is accepted is refused
 pub accepted_told : (report : Report) (out err : Sunk) → AnswersAccepted report out err → IfSome report.refused (IsDoneFault out.old.faults out.new.faults)

@@ -124,6 +124,17 @@ script_before_history = record {
       (sym (taken audit_h (codes "c") (codes "h") refl refl refl (IsUtf8-from_ascii (codes "c") (search rules)) (IsUtf8-from_ascii (codes "h") (search rules)))) refl;
 }
 
+-- and where the script alone is read
+abbrev migrate_c : List (List ℕ)
+migrate_c = codes "migrate" ∷ codes "c" ∷ []
+
+script_not_migrated : Accepted migrate_c nothing_read (refuses (codes "c" ∷ []) (Read 0))
+unfolding nothing_read
+script_not_migrated = record {
+  decides = subst (λ (place : Option ℕ). WordsDecide nothing_read migrate_c place (refuses (codes "c" ∷ []) (Read 0)))
+      (sym (taken migrate_c (codes "c") [] refl refl refl (IsUtf8-from_ascii (codes "c") (search rules)) (IsUtf8-from_ascii [] (search rules)))) refl;
+}
+
 -- the script's name is missing
 no_name : (gave : Reads) → Accepted (codes "check" ∷ []) gave (refuses [] (Words 1))
 no_name gave = record { decides = refl }
@@ -180,7 +191,7 @@ unfolding digits small_cell
 nothing_kept = refl
 
 -- the history is the file after the script and its module
-history_not_read : ActionReads (Some actions.Audit) nothing_read (codes "h") (codes "c" ∷ codes "m" ∷ []) (record { cell = small_cell; trees = [] })
+history_not_read : ActionReads (Some actions.Audit) nothing_read (codes "h") (codes "c" ∷ codes "m" ∷ []) [] (record { cell = small_cell; trees = [] })
     (refuses (codes "c" ∷ codes "m" ∷ codes "h" ∷ []) (Read 2))
 unfolding nothing_read
 history_not_read = refl

@@ -1,5 +1,5 @@
 -- Each way in which a call ends answers its words and files.
-use Rattle.std.proofs.Common.{◌≡◌, ℕ, List, [], ◌∷◌, ◌++◌, Bool, Option, Some, None, Result, Ok, Err, refl, ap, sym, subst, ◌⊎◌, inl, inr}
+use Rattle.std.proofs.Common.{◌≡◌, ℕ, ◌+◌, List, [], ◌∷◌, ◌++◌, map, Bool, Option, Some, None, Result, Ok, Err, refl, ap, sym, ◌∙◌, subst, ◌⊎◌, inl, inr}
 use Rattle.std.specs.Borrow.{Bor}
 use Rattle.std.specs.Prelude.{Vec}
 use Rattle.std.specs.declared.alloc.Global.{Global}
@@ -10,6 +10,7 @@ use Rattle.rapid_model.specs.CellData.{CellData}
 use Rattle.rapid_model.specs.ScriptData.{ScriptData, module_names}
 use Rattle.typed_trees.specs.Plain.{TypedTree}
 use Rattle.cell_assembly.specs.Made.{MadeCell}
+use Rattle.state_text.specs.StateLines.{SourcesData}
 use Rattle.command_words.specs.declared.command.Action.{Action}
 use Rattle.command_words.specs.declared.command.Action.TheVariants as actions
 use Rattle.controller.specs.declared.report.Report.{Report}
@@ -20,11 +21,11 @@ use Rattle.controller.specs.declared.shown.Shown.TheVariants as shows
 use Rattle.command_words.specs.Words.{refused_place}
 use Rattle.controller.specs.Files.{Reads, told_reads}
 use Rattle.controller.specs.Loaded.{names_in_turn, file_names, bytes_of, reads_of, IsScriptIn, TextsDecide}
-use Rattle.controller.specs.Accepted.{Verdict, refuses, accepts, runs, runs_free, lists, Accepted, ReadModule, file_text, ModulesOf, checked, names_of, ActionDecides, ActionReads, CheckedDecides, Doing, ModulesDecide, FileDecides, WordsDecide}
+use Rattle.controller.specs.Accepted.{Verdict, refuses, accepts, runs, runs_free, lists, measures, Accepted, ReadModule, file_text, ModulesOf, checked, names_of, ActionDecides, ActionReads, CheckedDecides, Doing, HistoryDecides, ModulesDecide, FileDecides, WordsDecide, audits, states, sources_in, sources_of}
 use Rattle.controller.specs.Printed.{Seen, Sunk}
 use Rattle.controller.specs.Refusals.{refusal_text, status_of}
 use Rattle.controller.specs.Runs.{IsRun, IsRunByTurns, run_status}
-use Rattle.controller.specs.Answered.{IsRefused, IsPrinted, Answers, AnswersAccepted, AnswersRun, AnswersHistory, AnswersList, AnswersReads, AnswersMade, IsOutOfMemory, IsVerdict, RunsOrMemory, ListsOrMemory, AnswersWords, untouched, PrintsBy, run_lines}
+use Rattle.controller.specs.Answered.{IsRefused, IsPrinted, Answers, AnswersAccepted, AnswersRun, AnswersHistory, AnswersList, AnswersReads, AnswersMade, AnswersMeasured, IsOutOfMemory, IsVerdict, RunsOrMemory, ListsOrMemory, MeasuresOrMemory, AnswersWords, untouched, PrintsBy, run_lines}
 use Rattle.controller.specs.Written.{TakesLine}
 use Rattle.controller.specs.Asked.{GiveScript, GiveTexts, IsAsked, IsToDo}
 use Rattle.controller.proofs.Gains.{gained_none}
@@ -112,14 +113,14 @@ module_refused words told action name history script ms texts failed refused rep
 -- what they come to if all modules are read
 read_decides : (words : List (List ℕ)) (told : Option Told) (action : Action) (name history : List ℕ) (script : ScriptData) (ms : List (Bor (List ℕ))) (texts : List (List ℕ)) (failed : Option Refused)
     (reads : List ReadModule) (verdict : Verdict) → names_in_turn ms ≡ module_names script.tasks → (g : GiveTexts words told action name history script texts failed) → TextsDecide 1 texts failed (Ok reads)
-    → CheckedDecides (ActionReads (Some action) g.given.gave history) (file_names name ms) (checked script reads) verdict → IsVerdict words told verdict
+    → CheckedDecides (ActionReads (Some action) g.given.gave history) (file_names name ms) (sources_of script reads) (checked script reads) verdict → IsVerdict words told verdict
 read_decides words told action name history script ms texts failed reads verdict named g d decides = by (modules_from_texts g.given.gave 1 (module_names script.tasks) texts failed (Ok reads) g.texts_are d)
   where
     by : (let all : Result (List ReadModule) Refused = Ok reads in all ≡ Err Memory) ⊎ ModulesOf g.given.gave 1 (module_names script.tasks) (Ok reads) → IsVerdict words told verdict
     by (inl memory) = cc
     by (inr m) =
         modules_decide words told action name history script texts failed (Ok reads) verdict g m
-        (subst (λ (ns : List (List ℕ)). CheckedDecides (ActionReads (Some action) g.given.gave history) (name ∷ ns) (checked script reads) verdict) named decides)
+        (subst (λ (ns : List (List ℕ)). CheckedDecides (ActionReads (Some action) g.given.gave history) (name ∷ ns) (sources_of script reads) (checked script reads) verdict) named decides)
 
 -- all is read
 pub all_read : (words : List (List ℕ)) (told : Option Told) (action : Action) (name history : List ℕ) (script : ScriptData) (ms : List (Bor (List ℕ))) (texts : List (List ℕ)) (failed : Option Refused)
@@ -129,34 +130,39 @@ all_read words told action name history script ms texts failed reads report out 
 all_read words told action name history script ms texts failed reads report out err named g d (inr answers) =
     inr (answers.0, read_decides words told action name history script ms texts failed reads answers.0 named g d answers.1, answers.2)
 
+-- each module has its text
+texts_are : (file : ℕ) (texts : List (List ℕ)) (failed : Option Refused) (reads : List ReadModule) → TextsDecide file texts failed (Ok reads) → map (λ (read : ReadModule). read.text) reads ≡ texts
+texts_are file [] None reads d = let none : reads ≡ [] = cc in ap (map (λ (read : ReadModule). read.text)) none
+texts_are file [] (Some refused) reads d = cc
+texts_are file (text ∷ texts) failed [] d = absurd d
+texts_are file (text ∷ texts) failed (read ∷ reads) d =
+    ap (λ (t : List ℕ). t ∷ map (λ (read : ReadModule). read.text) reads) d.0.1 ∙ ap (λ (ts : List (List ℕ)). text ∷ ts) (texts_are (file + 1) texts failed reads d.1)
+
 -- and accepted
 pub all_asked : (words : List (List ℕ)) (told : Option Told) (action : Action) (name history : List ℕ) (script : ScriptData) (ms : List (Bor (List ℕ))) (texts : List (List ℕ)) (failed : Option Refused)
     (reads : List ReadModule) (made : MadeCell) → names_in_turn ms ≡ module_names script.tasks → (g : GiveTexts words told action name history script texts failed) → TextsDecide 1 texts failed (Ok reads)
-    → checked script reads ≡ Ok made → IsToDo words told (ActionReads (Some action) g.given.gave history) (file_names name ms) made
+    → checked script reads ≡ Ok made → IsToDo words told (ActionReads (Some action) g.given.gave history) (file_names name ms) (sources_in script.tasks texts) made
 all_asked words told action name history script ms texts failed reads made named g d found = record {
   verdicts = λ verdict decides.
       read_decides words told action name history script ms texts failed reads verdict named g d
-      (subst (λ (x : Result MadeCell Refused). CheckedDecides (ActionReads (Some action) g.given.gave history) (file_names name ms) x verdict) (sym found) decides);
+      (subst (λ (x : Result MadeCell Refused). CheckedDecides (ActionReads (Some action) g.given.gave history) (file_names name ms) (sources_of script reads) x verdict) (sym found)
+      (subst (λ (s : List SourcesData). ActionReads (Some action) g.given.gave history (file_names name ms) s made verdict) (sym (ap (sources_in script.tasks) (texts_are 1 texts failed reads d))) decides));
 }
 
--- what answers the action with the cell and the text answers the words
-pub asked_answered : (words : List (List ℕ)) (told : Option Told) (action : Action) (made : MadeCell) (text here : List ℕ) (report : Report) (out there err : Sunk) → IsAsked words told action made text → here ≡ text
-    → there ≡ err → ((last : List ℕ) (names : List (List ℕ)) → AnswersMade action last here names made report out there) → AnswersWords words told report out err
-asked_answered words told action made text here report out there err asked given same answers =
-    by (subst (λ (s : Sunk). AnswersMade action asked.last text asked.names made report out s) same
-    (subst (λ (t : List ℕ). AnswersMade action asked.last t asked.names made report out there) given (answers asked.last asked.names)))
+-- what answers the action with the cell, its modules and the text answers the words
+pub asked_answered : (words : List (List ℕ)) (told : Option Told) (action : Action) (made : MadeCell) (sources : List SourcesData) (text : List ℕ) (report : Report) (out there err : Sunk)
+    → IsAsked words told action made sources text → there ≡ err → ((last : List ℕ) (names : List (List ℕ)) → AnswersMade action last text names sources made report out there) → AnswersWords words told report out err
+asked_answered words told action made sources text report out there err asked same answers =
+    by (subst (λ (s : Sunk). AnswersMade action asked.last text asked.names sources made report out s) same (answers asked.last asked.names))
   where
-    by : AnswersMade action asked.last text asked.names made report out err → AnswersWords words told report out err
+    by : AnswersMade action asked.last text asked.names sources made report out err → AnswersWords words told report out err
     by (inl memory) = inl memory
     by (inr a) = inr (a.0, asked.verdicts a.0 a.1, a.2)
 
 -- the same, as the program has them
-pub parsed_here : (texts here seen : List (Vec ℕ Global)) (trees shown : List RawModule) (failed : Option Refused) → here ≡ texts → seen ≡ texts → shown ≡ trees
-    → TextsDecide 1 (bytes_of here) failed (Ok (reads_of 1 here trees)) → TextsDecide 1 (bytes_of texts) failed (Ok (reads_of 1 seen shown))
-parsed_here texts here seen trees shown failed same equal alike d =
-    subst (λ (ms : List RawModule). TextsDecide 1 (bytes_of texts) failed (Ok (reads_of 1 seen ms))) (sym alike)
-    (subst (λ (ts : List (Vec ℕ Global)). TextsDecide 1 (bytes_of texts) failed (Ok (reads_of 1 ts trees))) (sym equal)
-    (subst (λ (ts : List (Vec ℕ Global)). TextsDecide 1 (bytes_of ts) failed (Ok (reads_of 1 ts trees))) same d))
+pub parsed_here : (texts : List (Vec ℕ Global)) (trees shown : List RawModule) (failed : Option Refused) → shown ≡ trees → TextsDecide 1 (bytes_of texts) failed (Ok (reads_of 1 texts trees))
+    → TextsDecide 1 (bytes_of texts) failed (Ok (reads_of 1 texts shown))
+parsed_here texts trees shown failed same d = subst (λ (ms : List RawModule). TextsDecide 1 (bytes_of texts) failed (Ok (reads_of 1 texts ms))) (sym same) d
 
 -- with all read, the outcome
 
@@ -167,7 +173,7 @@ check_refused names acts script reads refused report out err (inl memory) r = in
 check_refused names acts script reads refused report out err (inr found) r =
     inr (
       refuses names refused,
-      subst (λ (made : Result MadeCell Refused). CheckedDecides acts names made (refuses names refused)) (sym found) refl,
+      subst (λ (made : Result MadeCell Refused). CheckedDecides acts names (sources_of script reads) made (refuses names refused)) (sym found) refl,
       r,
     )
 
@@ -180,12 +186,12 @@ accepted_answers : (names : List (List ℕ)) (report : Report) (out err : Sunk) 
 accepted_answers names report out err answered = (answered.0, is_printed answered.1)
 
 -- all is accepted, which is reported
-pub all_accepted : (last text : List ℕ) (names : List (List ℕ)) (action : Action) (made : MadeCell) (report : Report) (out err : Sunk) → action ≡ actions.Check → AnswersAccepted report out err
-    → AnswersMade action last text names made report out err
-all_accepted last text names action made report out err is a =
+pub all_accepted : (last text : List ℕ) (names : List (List ℕ)) (sources : List SourcesData) (action : Action) (made : MadeCell) (report : Report) (out err : Sunk) → action ≡ actions.Check → AnswersAccepted report out err
+    → AnswersMade action last text names sources made report out err
+all_accepted last text names sources action made report out err is a =
     inr (
       accepts names,
-      subst (λ (x : Action). ActionDecides (Some x) last (Ok text) names made (accepts names)) (sym is) refl,
+      subst (λ (x : Action). ActionDecides (Some x) last (Ok text) names sources made (accepts names)) (sym is) refl,
       accepted_answers names report out err a,
     )
 
@@ -194,33 +200,33 @@ run_answers : (Run : Report → Type 0) (shown : Shown) (cell : CellData) (repor
 run_answers Run shown cell report out err answered = (answered.0, is_printed answered.1)
 
 -- the tasks run round-robin
-tasks_run : (last text : List ℕ) (names : List (List ℕ)) (action : Action) (shown : Shown) (made : MadeCell) (report : Report) (out err : Sunk)
-    → ActionDecides (Some action) last (Ok text) names made (runs names shown made.cell made.trees) → RunsOrMemory (IsRunByTurns made.cell made.trees) shown made.cell report out err
-    → AnswersMade action last text names made report out err
-tasks_run last text names action shown made report out err d (inl memory) = inl memory
-tasks_run last text names action shown made report out err d (inr run) =
+tasks_run : (last text : List ℕ) (names : List (List ℕ)) (sources : List SourcesData) (action : Action) (shown : Shown) (made : MadeCell) (report : Report) (out err : Sunk)
+    → ActionDecides (Some action) last (Ok text) names sources made (runs names shown made.cell made.trees) → RunsOrMemory (IsRunByTurns made.cell made.trees) shown made.cell report out err
+    → AnswersMade action last text names sources made report out err
+tasks_run last text names sources action shown made report out err d (inl memory) = inl memory
+tasks_run last text names sources action shown made report out err d (inr run) =
     inr (runs names shown made.cell made.trees, d, run_answers (IsRunByTurns made.cell made.trees) shown made.cell report out err run)
 
-pub round_run : (last text : List ℕ) (names : List (List ℕ)) (action : Action) (full : Bool) (made : MadeCell) (report : Report) (out err : Sunk) → action ≡ actions.Round full
-    → RunsOrMemory (IsRunByTurns made.cell made.trees) (shows.Events full) made.cell report out err → AnswersMade action last text names made report out err
-round_run last text names action full made report out err is =
-    tasks_run last text names action (shows.Events full) made report out err
-    (subst (λ (x : Action). ActionDecides (Some x) last (Ok text) names made (runs names (shows.Events full) made.cell made.trees)) (sym is) refl)
+pub round_run : (last text : List ℕ) (names : List (List ℕ)) (sources : List SourcesData) (action : Action) (full : Bool) (made : MadeCell) (report : Report) (out err : Sunk) → action ≡ actions.Round full
+    → RunsOrMemory (IsRunByTurns made.cell made.trees) (shows.Events full) made.cell report out err → AnswersMade action last text names sources made report out err
+round_run last text names sources action full made report out err is =
+    tasks_run last text names sources action (shows.Events full) made report out err
+    (subst (λ (x : Action). ActionDecides (Some x) last (Ok text) names sources made (runs names (shows.Events full) made.cell made.trees)) (sym is) refl)
 
-pub load_run : (last text : List ℕ) (names : List (List ℕ)) (action : Action) (moves : ℕ) (made : MadeCell) (report : Report) (out err : Sunk) → action ≡ actions.Load moves
-    → RunsOrMemory (IsRunByTurns made.cell made.trees) shows.Summary made.cell report out err → AnswersMade action last text names made report out err
-load_run last text names action moves made report out err is =
-    tasks_run last text names action shows.Summary made report out err
-    (subst (λ (x : Action). ActionDecides (Some x) last (Ok text) names made (runs names shows.Summary made.cell made.trees)) (sym is) refl)
+pub load_run : (last text : List ℕ) (names : List (List ℕ)) (sources : List SourcesData) (action : Action) (moves : ℕ) (made : MadeCell) (report : Report) (out err : Sunk) → action ≡ actions.Load moves
+    → RunsOrMemory (IsRunByTurns made.cell made.trees) shows.Summary made.cell report out err → AnswersMade action last text names sources made report out err
+load_run last text names sources action moves made report out err is =
+    tasks_run last text names sources action shows.Summary made report out err
+    (subst (λ (x : Action). ActionDecides (Some x) last (Ok text) names sources made (runs names shows.Summary made.cell made.trees)) (sym is) refl)
 
 -- or each on its own
-pub tasks_run_free : (last text : List ℕ) (names : List (List ℕ)) (action : Action) (full : Bool) (made : MadeCell) (report : Report) (out err : Sunk) → action ≡ actions.Run full
-    → RunsOrMemory (IsRun made.cell made.trees) (shows.Events full) made.cell report out err → AnswersMade action last text names made report out err
-tasks_run_free last text names action full made report out err is (inl memory) = inl memory
-tasks_run_free last text names action full made report out err is (inr run) =
+pub tasks_run_free : (last text : List ℕ) (names : List (List ℕ)) (sources : List SourcesData) (action : Action) (full : Bool) (made : MadeCell) (report : Report) (out err : Sunk) → action ≡ actions.Run full
+    → RunsOrMemory (IsRun made.cell made.trees) (shows.Events full) made.cell report out err → AnswersMade action last text names sources made report out err
+tasks_run_free last text names sources action full made report out err is (inl memory) = inl memory
+tasks_run_free last text names sources action full made report out err is (inr run) =
     inr (
       runs_free names (shows.Events full) made.cell made.trees,
-      subst (λ (x : Action). ActionDecides (Some x) last (Ok text) names made (runs_free names (shows.Events full) made.cell made.trees)) (sym is) refl,
+      subst (λ (x : Action). ActionDecides (Some x) last (Ok text) names sources made (runs_free names (shows.Events full) made.cell made.trees)) (sym is) refl,
       run_answers (IsRun made.cell made.trees) (shows.Events full) made.cell report out err run,
     )
 
@@ -228,19 +234,50 @@ list_answers : (names : List (List ℕ)) (cell : CellData) (trees : List TypedTr
 list_answers names cell trees report out err answered = (answered.0, answered.1, answered.2, is_printed answered.3)
 
 -- the cell and the code of its tasks are listed
-pub cell_listed : (last text : List ℕ) (names : List (List ℕ)) (action : Action) (made : MadeCell) (report : Report) (out err : Sunk) → action ≡ actions.List → ListsOrMemory made.cell made.trees report out err
-    → AnswersMade action last text names made report out err
-cell_listed last text names action made report out err is (inl memory) = inl memory
-cell_listed last text names action made report out err is (inr list) =
+pub cell_listed : (last text : List ℕ) (names : List (List ℕ)) (sources : List SourcesData) (action : Action) (made : MadeCell) (report : Report) (out err : Sunk) → action ≡ actions.List → ListsOrMemory made.cell made.trees report out err
+    → AnswersMade action last text names sources made report out err
+cell_listed last text names sources action made report out err is (inl memory) = inl memory
+cell_listed last text names sources action made report out err is (inr list) =
     inr (
       lists names made.cell made.trees,
-      subst (λ (x : Action). ActionDecides (Some x) last (Ok text) names made (lists names made.cell made.trees)) (sym is) refl,
+      subst (λ (x : Action). ActionDecides (Some x) last (Ok text) names sources made (lists names made.cell made.trees)) (sym is) refl,
       list_answers names made.cell made.trees report out err list,
     )
 
 -- a history is audited
-pub cell_audited : (last text : List ℕ) (names : List (List ℕ)) (action : Action) (made : MadeCell) (report : Report) (out err : Sunk) → action ≡ actions.Audit
-    → AnswersHistory text (names ++ last ∷ []) made report out err → AnswersMade action last text names made report out err
-cell_audited last text names action made report out err is (inl memory) = inl memory
-cell_audited last text names action made report out err is (inr answered) =
-    inr (answered.0, subst (λ (x : Action). ActionDecides (Some x) last (Ok text) names made answered.0) (sym is) answered.1, answered.2)
+pub cell_audited : (last text seen : List ℕ) (names : List (List ℕ)) (sources : List SourcesData) (action : Action) (made : MadeCell) (report : Report) (out err : Sunk) → action ≡ actions.Audit → seen ≡ text
+    → AnswersHistory (audits (names ++ last ∷ []) made.cell made.trees) seen (names ++ last ∷ []) made.cell report out err → AnswersMade action last text names sources made report out err
+cell_audited last text seen names sources action made report out err is same (inl memory) = inl memory
+cell_audited last text seen names sources action made report out err is same (inr answered) =
+    inr (
+      answered.0,
+      subst (λ (x : Action). ActionDecides (Some x) last (Ok text) names sources made answered.0) (sym is)
+          (subst (λ (t : List ℕ). HistoryDecides (audits (names ++ last ∷ []) made.cell made.trees) (Ok t) (names ++ last ∷ []) made.cell answered.0) same answered.1),
+      answered.2,
+    )
+
+-- the state after a history is shown
+pub cell_stated : (last text seen : List ℕ) (names : List (List ℕ)) (sources : List SourcesData) (action : Action) (made : MadeCell) (report : Report) (out err : Sunk) → action ≡ actions.State → seen ≡ text
+    → AnswersHistory (states (names ++ last ∷ []) made.cell made.trees sources) seen (names ++ last ∷ []) made.cell report out err → AnswersMade action last text names sources made report out err
+cell_stated last text seen names sources action made report out err is same (inl memory) = inl memory
+cell_stated last text seen names sources action made report out err is same (inr answered) =
+    inr (
+      answered.0,
+      subst (λ (x : Action). ActionDecides (Some x) last (Ok text) names sources made answered.0) (sym is)
+          (subst (λ (t : List ℕ). HistoryDecides (states (names ++ last ∷ []) made.cell made.trees sources) (Ok t) (names ++ last ∷ []) made.cell answered.0) same answered.1),
+      answered.2,
+    )
+
+-- a run is measured
+measure_answers : (names : List (List ℕ)) (cell : CellData) (trees : List TypedTree) (report : Report) (out err : Sunk) → AnswersMeasured (IsRunByTurns cell trees) cell report out err → Answers (measures names cell trees) report out err
+measure_answers names cell trees report out err answered = (answered.0, answered.1, answered.2, is_printed answered.3)
+
+pub cell_measured : (last text : List ℕ) (names : List (List ℕ)) (sources : List SourcesData) (action : Action) (made : MadeCell) (report : Report) (out err : Sunk) → action ≡ actions.Clearance → MeasuresOrMemory (IsRunByTurns made.cell made.trees) made.cell report out err
+    → AnswersMade action last text names sources made report out err
+cell_measured last text names sources action made report out err is (inl memory) = inl memory
+cell_measured last text names sources action made report out err is (inr answered) =
+    inr (
+      measures names made.cell made.trees,
+      subst (λ (x : Action). ActionDecides (Some x) last (Ok text) names sources made (measures names made.cell made.trees)) (sym is) refl,
+      measure_answers names made.cell made.trees report out err answered,
+    )

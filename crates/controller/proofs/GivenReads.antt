@@ -1,8 +1,8 @@
 -- The results of a call's reads, as far as loading reports them: from a shelf that reports its files, from one that
 -- reports nothing, and of the texts of the load cell.
-use Rattle.std.proofs.Common.{◌≡◌, ◌≢◌, ℕ, suc, ◌+◌, ◌<◌, ◌≤◌, List, ◌∷◌, length, get_or, refl, ap, sym, ◌∙◌, subst, arith}
+use Rattle.std.proofs.Common.{◌≡◌, ◌≢◌, Bool, false, ℕ, suc, ◌+◌, ◌<◌, ◌≤◌, List, ◌∷◌, length, get_or, refl, ap, sym, ◌∙◌, subst, arith}
 use Rattle.std.specs.Borrow.{Bor}
-use Rattle.std.specs.Prelude.{Option, Some, None, IfSome, IfOk, IfErr, option_map, Result, Ok, Err, Vec, All}
+use Rattle.std.specs.Prelude.{Option, Some, None, IfSome, IfOk, IfErr, IsTrue, option_map, Result, Ok, Err, Vec, All}
 use Rattle.std.specs.declared.alloc.Global.{Global}
 use Rattle.std.proofs.lemmas.List.{length-map}
 use Rattle.rapid_limits.specs.declared.TheConstants.{HISTORY_BYTES, MODULE_BYTES, SCRIPT_BYTES}
@@ -15,26 +15,38 @@ use Rattle.controller.specs.declared.refused.Refused.{Refused}
 use Rattle.command_words.specs.Words.{history_name, script_name}
 use Rattle.controller.specs.Files.{GivesText, Reads, told_reads, text_of, IsUnread}
 use Rattle.controller.specs.LoadFiles.{load_reads}
-use Rattle.controller.specs.Accepted.{Verdict, Accepted, ActionReads, FilesDecide, WordsDecide, reads_for, file_text}
+use Rattle.controller.specs.Accepted.{Verdict, Accepted, ActionReads, AskedDecides, FilesDecide, WordsDecide, reads_for, reads_script_alone, file_text, reads_history}
 use Rattle.controller.specs.Loaded.{names_in_turn, bytes_of, IsWithin, IsScriptIn, AreTexts}
 use Rattle.controller.specs.Answered.{IsVerdict}
 use Rattle.controller.specs.Asked.{AreFor, GiveScript, GiveTexts}
 use Rattle.controller.proofs.Untold.{Stops, unread_gave, behind, behind_end, text_within, texts_given}
 
--- words that are taken come to what their files come to
-files_decide : (words : List (List ℕ)) (action : Action) (name history : List ℕ) (gave : Reads) (verdict : Verdict) → AreFor words action name history
+-- words that are taken come to what their files come to, if the modules are among them
+files_decide : (words : List (List ℕ)) (action : Action) (name history : List ℕ) (gave : Reads) (verdict : Verdict) → AreFor words action name history → reads_script_alone (Some action) ≡ false
     → FilesDecide (ActionReads (Some action) (reads_for (Some action) gave) history) (reads_for (Some action) gave) name verdict → Accepted words gave verdict
-files_decide words action name history gave verdict is_for d = record {
+files_decide words action name history gave verdict is_for modules d = record {
   decides =
       subst (λ (o : Option ℕ). WordsDecide gave words o verdict) (sym is_for.taken)
-      (subst (λ (a : Option Action). FilesDecide (ActionReads a (reads_for a gave) (history_name words)) (reads_for a gave) (script_name words) verdict) (sym is_for.asked_is)
-      (subst (λ (n : List ℕ). FilesDecide (ActionReads (Some action) (reads_for (Some action) gave) (history_name words)) (reads_for (Some action) gave) n verdict) is_for.name_is
-      (subst (λ (h : List ℕ). FilesDecide (ActionReads (Some action) (reads_for (Some action) gave) h) (reads_for (Some action) gave) name verdict) is_for.history_is d)));
+      (subst (λ (a : Option Action). AskedDecides (reads_script_alone a) a gave (script_name words) (history_name words) verdict) (sym is_for.asked_is)
+      (subst (λ (n : List ℕ). AskedDecides (reads_script_alone (Some action)) (Some action) gave n (history_name words) verdict) is_for.name_is
+      (subst (λ (h : List ℕ). AskedDecides (reads_script_alone (Some action)) (Some action) gave name h verdict) is_for.history_is
+      (subst (λ (b : Bool). AskedDecides b (Some action) gave name history verdict) (sym modules) d))));
 }
 
--- the action reads the shelf's files
+-- the action reads the shelf's files, the modules among them
 abbrev pub ReadsFiles : Action → Type 0
-ReadsFiles action = (moves : ℕ) → action ≢ actions.Load moves
+ReadsFiles action = ((moves : ℕ) → action ≢ actions.Load moves) × (action ≢ actions.Migrate)
+
+reads_modules : (action : Action) → action ≢ actions.Migrate → reads_script_alone (Some action) ≡ false
+reads_modules actions.Check other = refl
+reads_modules (actions.Round full) other = refl
+reads_modules (actions.Run full) other = refl
+reads_modules actions.List other = refl
+reads_modules (actions.Load moves) other = refl
+reads_modules actions.Audit other = refl
+reads_modules actions.State other = refl
+reads_modules actions.Clearance other = refl
+reads_modules actions.Migrate other = absurd (other refl)
 
 files_read : (action : Action) (gave : Reads) → ReadsFiles action → reads_for (Some action) gave ≡ gave
 files_read actions.Check gave reads = refl
@@ -42,7 +54,10 @@ files_read (actions.Round full) gave reads = refl
 files_read (actions.Run full) gave reads = refl
 files_read actions.List gave reads = refl
 files_read actions.Audit gave reads = refl
-files_read (actions.Load moves) gave reads = absurd (reads moves refl)
+files_read actions.State gave reads = refl
+files_read actions.Clearance gave reads = refl
+files_read (actions.Load moves) gave reads = absurd (reads.0 moves refl)
+files_read actions.Migrate gave reads = absurd (reads.1 refl)
 
 -- the results of a call's reads: those that the shelf reports, if it reports its files
 abbrev pub AreFrom : Option Told → Reads → Type 0
@@ -54,12 +69,12 @@ shelf_verdict : (words : List (List ℕ)) (told : Option Told) (action : Action)
     → (verdict : Verdict) → FilesDecide (ActionReads (Some action) gave history) gave name verdict → IsVerdict words told verdict
 shelf_verdict words None action name history gave is_for reads from verdict d = (
   gave,
-  files_decide words action name history gave verdict is_for
+  files_decide words action name history gave verdict is_for (reads_modules action reads.1)
       (subst (λ (g : Reads). FilesDecide (ActionReads (Some action) g history) g name verdict) (sym (files_read action gave reads)) d),
 )
 shelf_verdict words (Some files) action name history gave is_for reads from verdict d =
     subst (λ (g : Reads). Accepted words g verdict) (sym from)
-    (files_decide words action name history gave verdict is_for
+    (files_decide words action name history gave verdict is_for (reads_modules action reads.1)
     (subst (λ (g : Reads). FilesDecide (ActionReads (Some action) g history) g name verdict) (sym (files_read action gave reads)) d))
 
 -- and so is what the texts of the load cell come to
@@ -69,7 +84,7 @@ load_verdict words told action name history moves is_for same verdict d = on tol
   where
     here : (gave : Reads) → Accepted words gave verdict
     here gave =
-        files_decide words action name history gave verdict is_for
+        files_decide words action name history gave verdict is_for (ap (λ (a : Action). reads_script_alone (Some a)) same)
         (subst (λ (a : Action). FilesDecide (ActionReads (Some action) (reads_for (Some a) gave) history) (reads_for (Some a) gave) name verdict) (sym same) d)
 
     on : (o : Option Told) → IsVerdict words o verdict
@@ -155,16 +170,16 @@ all_given words (Some files) later action name history script names texts failed
 pub record AreLast (words : List (List ℕ)) (told : Option Told) (action : Action) (name history : List ℕ) (script : ScriptData) (names : List (List ℕ)) (texts : List (Vec ℕ Global)) (failed : Option Refused)
     (result : Result (Vec ℕ Global) Refused) : Type 0 where
   pub given : GiveTexts words told action name history script (bytes_of texts) failed
-  pub last : action ≡ actions.Audit → GivesText (file_text given.given.gave (suc (length names)) HISTORY_BYTES history) result
+  pub last : IsTrue (reads_history action) → GivesText (file_text given.given.gave (suc (length names)) HISTORY_BYTES history) result
 
 -- what is known of the last read, whatever the shelf reports; now it reports this
 pub record IsLast (now : Option Told) (action : Action) (history : List ℕ) (file : ℕ) (result : Result (Vec ℕ Global) Refused) : Type 0 where
   pub within : IfOk result (λ text. length text.items ≤ HISTORY_BYTES)
-  pub unread : IfErr result (λ refused. (action ≡ actions.Audit) × IsUnread file refused)
-  pub gives : action ≡ actions.Audit → IfSome now (λ files. GivesText (text_of file HISTORY_BYTES (found files history)) result)
+  pub unread : IfErr result (λ refused. IsTrue (reads_history action) × IsUnread file refused)
+  pub gives : IsTrue (reads_history action) → IfSome now (λ files. GivesText (text_of file HISTORY_BYTES (found files history)) result)
 
 -- some read comes to it
-gave_last : (action : Action) (file : ℕ) (result : Result (Vec ℕ Global) Refused) → IfOk result (λ text. length text.items ≤ HISTORY_BYTES) → IfErr result (λ refused. (action ≡ actions.Audit) × IsUnread file refused)
+gave_last : (action : Action) (file : ℕ) (result : Result (Vec ℕ Global) Refused) → IfOk result (λ text. length text.items ≤ HISTORY_BYTES) → IfErr result (λ refused. IsTrue (reads_history action) × IsUnread file refused)
     → (gave : Option (List ℕ)) × GivesText (text_of file HISTORY_BYTES gave) result
 gave_last action file (Ok text) within unread = (Some text.items, text_within file HISTORY_BYTES text.items within)
 gave_last action file (Err refused) within unread = unread_gave file HISTORY_BYTES refused unread.1
@@ -184,7 +199,7 @@ last_given words None later now action name history script names texts failed co
     let g = untold_given words action name history script names texts failed next.0 is_for reads some loaded named in
     record {
       given = g.given;
-      last = λ audit.
+      last = λ reads_it.
           subst (λ (o : Option (List ℕ)). GivesText (text_of (suc (length names)) HISTORY_BYTES o) result) (sym (g.next_is none (length names) history same))
           (subst (λ (n : ℕ). GivesText (text_of n HISTORY_BYTES next.0) result) number_is next.1);
     }
@@ -193,20 +208,27 @@ last_given words (Some files) later now action name history script names texts f
     let read_is : count + 1 ≡ suc (length names) = omega (arith, many) in
     record {
       given = told_given words files action name history script names texts failed is_for reads here some (told_texts files after) named;
-      last = λ audit.
+      last = λ reads_it.
           subst (λ (n : ℕ). GivesText (text_of (suc (length names)) HISTORY_BYTES (found (after_reads n files) history)) result) read_is
           (subst (λ (n : ℕ). GivesText (text_of n HISTORY_BYTES (found (after_reads (count + 1) files) history)) result) number_is
-          (subst (λ (o : Option Told). IfSome o (λ f. GivesText (text_of file HISTORY_BYTES (found f history)) result)) (told_now files after) (last.gives audit)));
+          (subst (λ (o : Option Told). IfSome o (λ f. GivesText (text_of file HISTORY_BYTES (found f history)) result)) (told_now files after) (last.gives reads_it)));
     }
 
+-- the texts, as they are seen
+pub texts_seen : (later : Option Told) (names : List (List ℕ)) (texts seen : List (Vec ℕ Global)) (failed : Option Refused) → seen ≡ texts
+    → ((files : Told) → later ≡ Some (after_reads 1 files) → AreTexts (told_reads files) 1 names (bytes_of texts) failed) → (files : Told) → later ≡ Some (after_reads 1 files)
+    → AreTexts (told_reads files) 1 names (bytes_of seen) failed
+texts_seen later names texts seen failed same told = λ files after. subst (λ (ts : List (Vec ℕ Global)). AreTexts (told_reads files) 1 names (bytes_of ts) failed) (sym same) (told files after)
+
 -- the same for the modules that a script names
-pub loaded_names : (ms : List (Bor (List ℕ))) (texts : List (Vec ℕ Global)) (failed : Option Refused) → All IsWithin texts → length texts ≤ length ms → (failed ≡ None → length texts ≡ length ms)
-    → IfSome failed (λ refused. IsUnread (length texts + 1) refused × (length texts < length ms)) → AreLoaded (names_in_turn ms) texts failed
-loaded_names ms texts failed within few whole unread =
+pub loaded_names : (ms : List (Bor (List ℕ))) (texts seen : List (Vec ℕ Global)) (failed : Option Refused) → seen ≡ texts → All IsWithin texts → length texts ≤ length ms → (failed ≡ None → length texts ≡ length ms)
+    → IfSome failed (λ refused. IsUnread (length texts + 1) refused × (length texts < length ms)) → AreLoaded (names_in_turn ms) seen failed
+loaded_names ms texts seen failed one within few whole unread =
     let same : length (names_in_turn ms) ≡ length ms = length-map ms (λ m. m.now) in
-    record {
+    let loaded : AreLoaded (names_in_turn ms) texts failed = record {
       within = within;
       few = omega (arith, same, few);
       whole = λ none. let all = whole none in omega (arith, same, all);
       unread = subst (λ (n : ℕ). IfSome failed (λ refused. IsUnread (length texts + 1) refused × (length texts < n))) (sym same) unread;
-    }
+    } in
+    subst (λ (ts : List (Vec ℕ Global)). AreLoaded (names_in_turn ms) ts failed) (sym one) loaded

@@ -1,10 +1,12 @@
 -- The file that an action reads last, after all else is accepted.
 use Rattle.std.proofs.Common.{◌≡◌, ℕ, List, [], ◌∷◌, ◌++◌, length, Some, Ok, Err, refl, ap, sym, ◌∙◌, subst, ◌⊎◌, inl, inr}
-use Rattle.std.specs.Prelude.{Option, Result, slice_get}
+use Rattle.std.specs.Prelude.{IsTrue, Option, Result, slice_get}
+use Rattle.std.proofs.lemmas.Bool.{false≢true}
 use Rattle.std.specs.Option.{unwrap_or}
 use Rattle.outside.specs.Told.{Told}
 use Rattle.rapid_model.proofs.Lists.{between}
 use Rattle.cell_assembly.specs.Made.{MadeCell}
+use Rattle.state_text.specs.StateLines.{SourcesData}
 use Rattle.command_words.specs.declared.command.Action.{Action}
 use Rattle.command_words.specs.declared.command.Action.TheVariants as actions
 use Rattle.controller.specs.declared.refused.Refused.{Refused}
@@ -12,7 +14,7 @@ use Rattle.controller.specs.declared.refused.Refused.TheVariants as refusals
 use Rattle.controller.specs.declared.report.Report.{Report}
 use Rattle.rapid_limits.specs.declared.TheConstants.{HISTORY_BYTES}
 use Rattle.controller.specs.Files.{IsUnread, Reads}
-use Rattle.controller.specs.Accepted.{Verdict, refuses, file_text, ActionDecides, ActionReads, HistoryDecides}
+use Rattle.controller.specs.Accepted.{Verdict, audits, refuses, states, file_text, reads_history, ActionDecides, ActionReads, HistoryDecides}
 use Rattle.controller.specs.Answered.{AnswersWords, IsRefused}
 use Rattle.controller.specs.Asked.{IsAsked, IsToDo}
 use Rattle.controller.specs.Printed.{Sunk}
@@ -20,23 +22,45 @@ use Rattle.controller.specs.Refusals.{name_at, refusal_line, refusal_text}
 use Rattle.controller.specs.Written.{TakesLine}
 use Rattle.controller.proofs.Exits.{out_of_memory}
 
--- only `audit` depends on it
-as_read : (action : Action) (last : List ℕ) (read : Result (List ℕ) Refused) (text : List ℕ) (names : List (List ℕ)) (made : MadeCell) (verdict : Verdict) → (action ≡ actions.Audit → read ≡ Ok text)
-    → ActionDecides (Some action) last (Ok text) names made verdict → ActionDecides (Some action) last read names made verdict
-as_read actions.Check last read text names made verdict is d = d
-as_read (actions.Round full) last read text names made verdict is d = d
-as_read (actions.Run full) last read text names made verdict is d = d
-as_read actions.List last read text names made verdict is d = d
-as_read (actions.Load moves) last read text names made verdict is d = d
-as_read actions.Audit last read text names made verdict is d = subst (λ (r : Result (List ℕ) Refused). HistoryDecides r (names ++ last ∷ []) made verdict) (sym (is refl)) d
+-- only actions that read a history depend on it
+as_read : (action : Action) (last : List ℕ) (read : Result (List ℕ) Refused) (text : List ℕ) (names : List (List ℕ)) (sources : List SourcesData) (made : MadeCell) (verdict : Verdict)
+    → (IsTrue (reads_history action) → read ≡ Ok text) → ActionDecides (Some action) last (Ok text) names sources made verdict → ActionDecides (Some action) last read names sources made verdict
+as_read actions.Check last read text names sources made verdict is d = d
+as_read (actions.Round full) last read text names sources made verdict is d = d
+as_read (actions.Run full) last read text names sources made verdict is d = d
+as_read actions.List last read text names sources made verdict is d = d
+as_read (actions.Load moves) last read text names sources made verdict is d = d
+as_read actions.Clearance last read text names sources made verdict is d = d
+as_read actions.Migrate last read text names sources made verdict is d = d
+as_read actions.Audit last read text names sources made verdict is d =
+    subst (λ (r : Result (List ℕ) Refused). HistoryDecides (audits (names ++ last ∷ []) made.cell made.trees) r (names ++ last ∷ []) made.cell verdict) (sym (is refl)) d
+as_read actions.State last read text names sources made verdict is d =
+    subst (λ (r : Result (List ℕ) Refused). HistoryDecides (states (names ++ last ∷ []) made.cell made.trees sources) r (names ++ last ∷ []) made.cell verdict) (sym (is refl)) d
 
--- the action with the text of that file
-pub text_asked : (words : List (List ℕ)) (told : Option Told) (action : Action) (gave : Reads) (last text : List ℕ) (names : List (List ℕ)) (made : MadeCell)
-    → (action ≡ actions.Audit → file_text gave (length names) HISTORY_BYTES last ≡ Ok text) → IsToDo words told (ActionReads (Some action) gave last) names made → IsAsked words told action made text
-text_asked words told action gave last text names made is to_do = record {
+-- and only `state` on the modules
+as_kept : (action : Action) (last : List ℕ) (read : Result (List ℕ) Refused) (names : List (List ℕ)) (sources kept : List SourcesData) (made : MadeCell) (verdict : Verdict)
+    → (action ≡ actions.State → kept ≡ sources) → ActionDecides (Some action) last read names kept made verdict → ActionDecides (Some action) last read names sources made verdict
+as_kept actions.Check last read names sources kept made verdict is d = d
+as_kept (actions.Round full) last read names sources kept made verdict is d = d
+as_kept (actions.Run full) last read names sources kept made verdict is d = d
+as_kept actions.List last read names sources kept made verdict is d = d
+as_kept (actions.Load moves) last read names sources kept made verdict is d = d
+as_kept actions.Clearance last read names sources kept made verdict is d = d
+as_kept actions.Migrate last read names sources kept made verdict is d = d
+as_kept actions.Audit last read names sources kept made verdict is d = d
+as_kept actions.State last read names sources kept made verdict is d = subst (λ (s : List SourcesData). ActionDecides (Some actions.State) last read names s made verdict) (is refl) d
+
+-- the action with the text of that file, and with the modules that it keeps
+pub text_asked : (words : List (List ℕ)) (told : Option Told) (action : Action) (gave : Reads) (last text : List ℕ) (names : List (List ℕ)) (sources kept : List SourcesData) (made : MadeCell)
+    → (IsTrue (reads_history action) → file_text gave (length names) HISTORY_BYTES last ≡ Ok text) → (action ≡ actions.State → kept ≡ sources) → IsToDo words told (ActionReads (Some action) gave last) names sources made
+    → IsAsked words told action made kept text
+text_asked words told action gave last text names sources kept made is kept_is to_do = record {
   names = names;
   last = last;
-  verdicts = λ verdict d. to_do.verdicts verdict (as_read action last (file_text gave (length names) HISTORY_BYTES last) text names made verdict is d);
+  verdicts = λ verdict d.
+      to_do.verdicts verdict
+      (as_kept action last (file_text gave (length names) HISTORY_BYTES last) names sources kept made verdict kept_is
+      (as_read action last (file_text gave (length names) HISTORY_BYTES last) text names kept made verdict is d));
 }
 
 -- the name of that file
@@ -59,16 +83,28 @@ pub told_last : (names : List (List ℕ)) (last : List ℕ) (file : ℕ) (refuse
 told_last names last file refused err unread is told = subst (λ (line : List ℕ). TakesLine line err) (last_line names last file refused unread is) told
 
 -- and what that answers
-pub last_refused : (words : List (List ℕ)) (told : Option Told) (action : Action) (gave : Reads) (last : List ℕ) (names : List (List ℕ)) (made : MadeCell) (refused : Refused) (report : Report) (out err : Sunk)
-    → action ≡ actions.Audit → (refused ≡ refusals.Memory) ⊎ (file_text gave (length names) HISTORY_BYTES last ≡ Err refused) → IsToDo words told (ActionReads (Some action) gave last) names made
-    → IsRefused (names ++ last ∷ []) refused report out err → AnswersWords words told report out err
-last_refused words told action gave last names made refused report out err audit (inl memory) to_do r = inl (out_of_memory (names ++ last ∷ []) refused report out err memory r)
-last_refused words told action gave last names made refused report out err audit (inr read) to_do r = inr (verdict, to_do.verdicts verdict decides, r)
-  where
-    verdict : Verdict
-    verdict = refuses (names ++ last ∷ []) refused
 
-    decides : ActionReads (Some action) gave last names made verdict
-    decides =
-        subst (λ (a : Action). ActionDecides (Some a) last (file_text gave (length names) HISTORY_BYTES last) names made verdict) (sym audit)
-        (subst (λ (t : Result (List ℕ) Refused). HistoryDecides t (names ++ last ∷ []) made verdict) (sym read) refl)
+-- an action that reads a history is refused as the read is
+history_decides : (action : Action) (last : List ℕ) (names : List (List ℕ)) (sources : List SourcesData) (made : MadeCell) (refused : Refused) → IsTrue (reads_history action)
+    → ActionDecides (Some action) last (Err refused) names sources made (refuses (names ++ last ∷ []) refused)
+history_decides actions.Audit last names sources made refused is = refl
+history_decides actions.State last names sources made refused is = refl
+history_decides actions.Check last names sources made refused is = absurd (false≢true is)
+history_decides (actions.Round full) last names sources made refused is = absurd (false≢true is)
+history_decides (actions.Run full) last names sources made refused is = absurd (false≢true is)
+history_decides actions.List last names sources made refused is = absurd (false≢true is)
+history_decides (actions.Load moves) last names sources made refused is = absurd (false≢true is)
+history_decides actions.Clearance last names sources made refused is = absurd (false≢true is)
+history_decides actions.Migrate last names sources made refused is = absurd (false≢true is)
+
+pub last_refused : (words : List (List ℕ)) (told : Option Told) (action : Action) (gave : Reads) (last : List ℕ) (names : List (List ℕ)) (sources : List SourcesData) (made : MadeCell) (refused : Refused) (report : Report)
+    (out err : Sunk) → IsTrue (reads_history action) → (refused ≡ refusals.Memory) ⊎ (file_text gave (length names) HISTORY_BYTES last ≡ Err refused)
+    → IsToDo words told (ActionReads (Some action) gave last) names sources made → IsRefused (names ++ last ∷ []) refused report out err → AnswersWords words told report out err
+last_refused words told action gave last names sources made refused report out err reads (inl memory) to_do r = inl (out_of_memory (names ++ last ∷ []) refused report out err memory r)
+last_refused words told action gave last names sources made refused report out err reads (inr read) to_do r =
+    inr (
+      refuses (names ++ last ∷ []) refused,
+      to_do.verdicts (refuses (names ++ last ∷ []) refused)
+          (subst (λ (t : Result (List ℕ) Refused). ActionDecides (Some action) last t names sources made (refuses (names ++ last ∷ []) refused)) (sym read) (history_decides action last names sources made refused reads)),
+      r,
+    )

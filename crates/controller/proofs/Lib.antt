@@ -1,4 +1,5 @@
 mod Examples
+pub mod ClearanceExamples
 pub mod Lists
 pub mod ModuleFiles
 pub mod Untold
@@ -23,11 +24,19 @@ pub mod RefusalLines
 pub mod Fates
 pub mod Printing
 pub mod PrintingList
+pub mod PrintingState
 pub mod Reports
 pub mod Exits
 pub mod LastReads
+pub mod Migrating
 pub mod Audited
+pub mod Stated
 pub mod Causes
 pub mod OneVerdict
 pub mod Refusing
 pub mod Complete
+pub mod ArmPositions
+pub mod NearestGaps
+pub mod PathGaps
+pub mod Walking
+pub mod PrintingZones

@@ -1,8 +1,9 @@
 -- Words and the results of the reads have at most one verdict, provided that a text comes to one module.
-use Rattle.std.proofs.Common.{◌≡◌, ℕ, ◌+◌, List, [], ◌∷◌, ◌++◌, length, Option, Some, None, Result, Ok, Err, refl, ap, sym, ◌∙◌, subst, inl, inr}
+use Rattle.std.proofs.Common.{◌≡◌, Bool, true, false, ℕ, ◌+◌, List, [], ◌∷◌, ◌++◌, length, Option, Some, None, Result, Ok, Err, refl, ap, sym, ◌∙◌, subst, inl, inr}
 use Rattle.rapid_limits.specs.declared.TheConstants.{HISTORY_BYTES, MODULE_BYTES, SCRIPT_BYTES}
 use Rattle.toml.specs.Data.{Members}
 use Rattle.cell_assembly.specs.Made.{MadeCell}
+use Rattle.rapid_model.specs.CellData.{CellData}
 use Rattle.rapid_model.specs.ScriptData.{IsScript, ScriptData, module_names}
 use Rattle.rapid_model.specs.declared.event.Event.{Event}
 use Rattle.rapid_model.specs.declared.fate.Fate.{Fate}
@@ -12,6 +13,7 @@ use Rattle.raw_trees.specs.Plain.{PlainModule}
 use Rattle.rapid_forms.specs.declared.fault.SyntaxFault.{SyntaxFault}
 use Rattle.module_parser.specs.Modules.{ModuleText}
 use Rattle.history_text.specs.HistoryText.{AreNamed}
+use Rattle.state_text.specs.StateLines.{SourcesData}
 use Rattle.history_text.proofs.NextLines.{one_first_fault, spelled_has_no_fault}
 use Rattle.history_text.proofs.OneHistory.{read_once}
 use Rattle.command_words.specs.declared.command.Action.{Action}
@@ -21,7 +23,7 @@ use Rattle.controller.specs.declared.refused.Refused.TheVariants.{History}
 use Rattle.command_words.specs.Words.{refused_place, script_name, history_name, asked}
 use Rattle.controller.specs.Files.{Reads}
 use Rattle.controller.specs.Output.{names_in}
-use Rattle.controller.specs.Accepted.{Doing, ReadModule, Verdict, audits, refuses, Accepted, file_text, reads_for, fault_refusal, ModuleOf, ModuleIn, ModulesOf, checked, ActionDecides, ActionReads, CheckedDecides, HistoryDecides, ModulesDecide, names_of, ScriptDecides, FileDecides, WordsDecide}
+use Rattle.controller.specs.Accepted.{Doing, ReadModule, Verdict, audits, refuses, Accepted, file_text, reads_for, fault_refusal, ModuleOf, ModuleIn, ModulesOf, checked, ActionDecides, ActionReads, AloneDecides, AskedDecides, CheckedDecides, MigrationDecides, reads_script_alone, HistoryDecides, ModulesDecide, names_of, ScriptDecides, FileDecides, WordsDecide, states, sources_of}
 use Rattle.controller.proofs.NamedTasks.{made_named, script_within}
 
 -- a text comes to one module or one fault
@@ -99,44 +101,50 @@ modules_one one gave file (n ∷ ns) (Err x) (Err y) (inr p) (inr q) = modules_o
 
 -- a text of a history comes to one verdict
 
-history_one : (read : Result (List ℕ) Refused) (names : List (List ℕ)) (made : MadeCell) (v w : Verdict) → AreNamed made.cell.tasks → HistoryDecides read names made v → HistoryDecides read names made w → v ≡ w
-history_one (Err refused) names made v w named p q = p ∙ sym q
-history_one (Ok text) names made v w named (inl p) (inl q) =
-    let same : p.0 ≡ q.0 = one_first_fault (names_in made.cell) text p.0 q.0 p.1 q.1 in
+history_one : (on : List Event → List Fate → Verdict) (read : Result (List ℕ) Refused) (names : List (List ℕ)) (cell : CellData) (v w : Verdict) → AreNamed cell.tasks → HistoryDecides on read names cell v
+    → HistoryDecides on read names cell w → v ≡ w
+history_one on (Err refused) names cell v w named p q = p ∙ sym q
+history_one on (Ok text) names cell v w named (inl p) (inl q) =
+    let same : p.0 ≡ q.0 = one_first_fault (names_in cell) text p.0 q.0 p.1 q.1 in
     p.2 ∙ ap (λ (line : ℕ). refuses names (History line)) same ∙ sym q.2
-history_one (Ok text) names made v w named (inl p) (inr q) = absurd (spelled_has_no_fault (names_in made.cell) text q.0 q.1 p.0 named q.2 p.1)
-history_one (Ok text) names made v w named (inr p) (inl q) = absurd (spelled_has_no_fault (names_in made.cell) text p.0 p.1 q.0 named p.2 q.1)
-history_one (Ok text) names made v w named (inr p) (inr q) =
-    let same = read_once (names_in made.cell) text p.0 q.0 p.1 q.1 named p.2 q.2 in
-    p.3 ∙ ap (λ (events : List Event). audits names made.cell made.trees events p.1) same.0
-    ∙ ap (λ (fates : List Fate). audits names made.cell made.trees q.0 fates) same.1 ∙ sym q.3
+history_one on (Ok text) names cell v w named (inl p) (inr q) = absurd (spelled_has_no_fault (names_in cell) text q.0 q.1 p.0 named q.2 p.1)
+history_one on (Ok text) names cell v w named (inr p) (inl q) = absurd (spelled_has_no_fault (names_in cell) text p.0 p.1 q.0 named p.2 q.1)
+history_one on (Ok text) names cell v w named (inr p) (inr q) =
+    let same = read_once (names_in cell) text p.0 q.0 p.1 q.1 named p.2 q.2 in
+    p.3 ∙ ap (λ (events : List Event). on events p.1) same.0 ∙ ap (λ (fates : List Fate). on q.0 fates) same.1 ∙ sym q.3
 
 -- what is accepted is done in only one way, with a cell whose tasks have names
 abbrev IsOne : Doing → Type 0
-IsOne acts = (names : List (List ℕ)) (made : MadeCell) (v w : Verdict) → AreNamed made.cell.tasks → acts names made v → acts names made w → v ≡ w
+IsOne acts = (names : List (List ℕ)) (sources : List SourcesData) (made : MadeCell) (v w : Verdict) → AreNamed made.cell.tasks → acts names sources made v → acts names sources made w → v ≡ w
 
-action_one : (action : Option Action) (last : List ℕ) (read : Result (List ℕ) Refused) (names : List (List ℕ)) (made : MadeCell) (v w : Verdict) → AreNamed made.cell.tasks → ActionDecides action last read names made v
-    → ActionDecides action last read names made w → v ≡ w
-action_one (Some actions.Check) last read names made v w named p q = p ∙ sym q
-action_one (Some (actions.Round full)) last read names made v w named p q = p ∙ sym q
-action_one (Some (actions.Run full)) last read names made v w named p q = p ∙ sym q
-action_one (Some actions.List) last read names made v w named p q = p ∙ sym q
-action_one (Some (actions.Load moves)) last read names made v w named p q = p ∙ sym q
-action_one (Some actions.Audit) last read names made v w named p q = history_one read (names ++ last ∷ []) made v w named p q
-action_one None last read names made v w named p q = absurd p
+action_one : (action : Option Action) (last : List ℕ) (read : Result (List ℕ) Refused) (names : List (List ℕ)) (sources : List SourcesData) (made : MadeCell) (v w : Verdict) → AreNamed made.cell.tasks
+    → ActionDecides action last read names sources made v → ActionDecides action last read names sources made w → v ≡ w
+action_one (Some actions.Check) last read names sources made v w named p q = p ∙ sym q
+action_one (Some (actions.Round full)) last read names sources made v w named p q = p ∙ sym q
+action_one (Some (actions.Run full)) last read names sources made v w named p q = p ∙ sym q
+action_one (Some actions.List) last read names sources made v w named p q = p ∙ sym q
+action_one (Some (actions.Load moves)) last read names sources made v w named p q = p ∙ sym q
+action_one (Some actions.Audit) last read names sources made v w named p q =
+    history_one (audits (names ++ last ∷ []) made.cell made.trees) read (names ++ last ∷ []) made.cell v w named p q
+action_one (Some actions.State) last read names sources made v w named p q =
+    history_one (states (names ++ last ∷ []) made.cell made.trees sources) read (names ++ last ∷ []) made.cell v w named p q
+action_one (Some actions.Clearance) last read names sources made v w named p q = p ∙ sym q
+action_one (Some actions.Migrate) last read names sources made v w named p q = absurd p
+action_one None last read names sources made v w named p q = absurd p
 
 reads_one : (action : Option Action) (gave : Reads) (last : List ℕ) → IsOne (ActionReads action gave last)
-reads_one action gave last = λ names made v w named p q. action_one action last (file_text gave (length names) HISTORY_BYTES last) names made v w named p q
+reads_one action gave last = λ names sources made v w named p q. action_one action last (file_text gave (length names) HISTORY_BYTES last) names sources made v w named p q
 
-checked_one : (acts : Doing) → IsOne acts → (names : List (List ℕ)) (found : Result MadeCell Refused) (v w : Verdict) → ((made : MadeCell) → found ≡ Ok made → AreNamed made.cell.tasks)
-    → CheckedDecides acts names found v → CheckedDecides acts names found w → v ≡ w
-checked_one acts each names (Err refused) v w named p q = p ∙ sym q
-checked_one acts each names (Ok made) v w named p q = each names made v w (named made refl) p q
+checked_one : (acts : Doing) → IsOne acts → (names : List (List ℕ)) (sources : List SourcesData) (found : Result MadeCell Refused) (v w : Verdict)
+    → ((made : MadeCell) → found ≡ Ok made → AreNamed made.cell.tasks) → CheckedDecides acts names sources found v → CheckedDecides acts names sources found w → v ≡ w
+checked_one acts each names sources (Err refused) v w named p q = p ∙ sym q
+checked_one acts each names sources (Ok made) v w named p q = each names sources made v w (named made refl) p q
 
 modules_decide_one : (acts : Doing) → IsOne acts → (names : List (List ℕ)) (script : ScriptData) (modules : Result (List ReadModule) Refused) (v w : Verdict) → IsScript script
     → ModulesDecide acts names script modules v → ModulesDecide acts names script modules w → v ≡ w
 modules_decide_one acts each names script (Err refused) v w limits p q = p ∙ sym q
-modules_decide_one acts each names script (Ok reads) v w limits p q = checked_one acts each names (checked script reads) v w (λ made is. made_named script reads made limits is) p q
+modules_decide_one acts each names script (Ok reads) v w limits p q =
+    checked_one acts each names (sources_of script reads) (checked script reads) v w (λ made is. made_named script reads made limits is) p q
 
 script_decides_one : OneText → (acts : Doing) → IsOne acts → (gave : Reads) (name text : List ℕ) (script : Read ScriptData) (v w : Verdict) → ScriptOf text script → ScriptDecides acts gave name script v
     → ScriptDecides acts gave name script w → v ≡ w
@@ -152,12 +160,27 @@ file_decides_one one acts each gave name (Ok text) v w p q =
     let same : p.0 ≡ q.0 = script_one text p.0 q.0 p.1 q.1 in
     script_decides_one one acts each gave name text q.0 v w q.1 (subst (λ (s : Read ScriptData). ScriptDecides acts gave name s v) same p.2) q.2
 
+-- the script alone, or with the modules
+
+migration_one : (name text : List ℕ) (script : Read ScriptData) (v w : Verdict) → MigrationDecides name text script v → MigrationDecides name text script w → v ≡ w
+migration_one name text (Err broken) v w p q = p ∙ sym q
+migration_one name text (Ok script) v w p q = p ∙ sym q
+
+alone_one : (name : List ℕ) (read : Result (List ℕ) Refused) (v w : Verdict) → AloneDecides name read v → AloneDecides name read w → v ≡ w
+alone_one name (Err refused) v w p q = p ∙ sym q
+alone_one name (Ok text) v w p q =
+    let same : p.0 ≡ q.0 = script_one text p.0 q.0 p.1 q.1 in
+    migration_one name text q.0 v w (subst (λ (s : Read ScriptData). MigrationDecides name text s v) same p.2) q.2
+
+asked_one : OneText → (alone : Bool) (action : Option Action) (gave : Reads) (name last : List ℕ) (v w : Verdict) → AskedDecides alone action gave name last v → AskedDecides alone action gave name last w → v ≡ w
+asked_one one true action gave name last v w p q = alone_one name (file_text gave 0 SCRIPT_BYTES name) v w p q
+asked_one one false action gave name last v w p q =
+    let read = reads_for action gave in
+    file_decides_one one (ActionReads action read last) (reads_one action read last) read name (file_text read 0 SCRIPT_BYTES name) v w p q
+
 words_decide_one : OneText → (gave : Reads) (words : List (List ℕ)) (place : Option ℕ) (v w : Verdict) → WordsDecide gave words place v → WordsDecide gave words place w → v ≡ w
 words_decide_one one gave words (Some place) v w p q = p ∙ sym q
-words_decide_one one gave words None v w p q =
-    let read = reads_for (asked words) gave in
-    file_decides_one one (ActionReads (asked words) read (history_name words)) (reads_one (asked words) read (history_name words)) read (script_name words)
-    (file_text read 0 SCRIPT_BYTES (script_name words)) v w p q
+words_decide_one one gave words None v w p q = asked_one one (reads_script_alone (asked words)) (asked words) gave (script_name words) (history_name words) v w p q
 
 pub verdict_one : OneText → (words : List (List ℕ)) (gave : Reads) (v w : Verdict) → Accepted words gave v → Accepted words gave w → v ≡ w
 verdict_one one words gave v w a b = words_decide_one one gave words (refused_place words) v w a.decides b.decides

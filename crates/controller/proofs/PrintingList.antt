@@ -81,14 +81,14 @@ place_failed line rows k all a b c lt w p = elim (slice_get_cases rows k).1 [
 -- one code after the other
 
 -- some more lines
-block_more : (all block rest : List (List ℕ)) (a b c : Seen) → Printing all (block ++ rest) (between a b) → WritesAll block (between b c) → Printing all rest (between a c)
+pub block_more : (all block rest : List (List ℕ)) (a b c : Seen) → Printing all (block ++ rest) (between a b) → WritesAll block (between b c) → Printing all rest (between a c)
 block_more all block rest a b c p w = record {
   done = p.done ++ block;
   split = p.split ∙ sym (append_assoc p.done block rest);
   written = wrote_more p.done block a b c p.written w;
 }
 
-block_fails : (all block rest : List (List ℕ)) (a b c : Seen) → Printing all (block ++ rest) (between a b) → WritesPart block (between b c) → WritesPart all (between a c)
+pub block_fails : (all block rest : List (List ℕ)) (a b c : Seen) → Printing all (block ++ rest) (between a b) → WritesPart block (between b c) → WritesPart all (between a c)
 block_fails all block rest a b c p w =
     subst (λ (lines : List (List ℕ)). WritesPart lines (between a c)) (sym p.split)
     (wrote_part p.done (block ++ rest) a b c p.written (wrote_first block rest (between b c) w))

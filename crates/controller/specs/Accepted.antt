@@ -1,6 +1,6 @@
--- What command words and files come to: the first refusal; that all is accepted; or the cell and the trees of its
--- tasks, for `audit` with a history.
-use Rattle.std.specs.Prelude.{◌≡◌, ℕ, zero, suc, ◌+◌, ◌++◌, ◌⊎◌, take, drop, slice_get, List, [], ◌∷◌, length, map, Option, Some, None, is_some, Result, Ok, Err}
+-- What command words and files come to: the first refusal; that all is accepted; the cell and the trees of its tasks, for
+-- `audit` and `state` with a history; or for `migrate` the text of the script.
+use Rattle.std.specs.Prelude.{◌≡◌, ℕ, Bool, true, false, zero, suc, ◌+◌, ◌++◌, ◌⊎◌, take, drop, slice_get, List, [], ◌∷◌, length, map, Option, Some, None, is_some, Result, Ok, Err}
 use Rattle.rapid_limits.specs.declared.TheConstants.{HISTORY_BYTES, MODULE_BYTES, SCRIPT_BYTES}
 use Rattle.rapid_model.specs.CellData.{CellData}
 use Rattle.rapid_model.specs.ScriptData.{ScriptData, module_names}
@@ -30,6 +30,7 @@ use Rattle.controller.specs.declared.refused.Refused.{Refused}
 use Rattle.controller.specs.declared.refused.Refused.TheVariants.{Words, Script, Module, Memory, History}
 use Rattle.controller.specs.declared.refused.ModuleRule.{ModuleRule}
 use Rattle.controller.specs.declared.refused.ModuleRule.TheVariants.{Lex, Syntax, «Type»}
+use Rattle.state_text.specs.StateLines.{SourcesData}
 use Rattle.controller.specs.declared.shown.Shown.{Shown}
 use Rattle.controller.specs.declared.shown.Shown.TheVariants as shows
 use Rattle.controller.specs.Files.{Reads, text_of}
@@ -39,7 +40,9 @@ use Rattle.command_words.specs.Words.{refused_place, script_name, history_name, 
 
 -- The refusal; or all is accepted, for `check`; or the cell and the trees, for a round-robin run or one in which each
 -- task runs on its own, with what is printed of it, or for their list, or for the audit of a history with these events
--- and fates. And the names of the files in the order in which they are read, as far as the script is known.
+-- and fates, or for the state after it, whose places are those of the tasks' modules, or for a round-robin run that is
+-- measured; or the text of the script, for the same in version 2. And the names of the files in the order in which they
+-- are read, as far as the script is known.
 pub data Verdict : Type 0 where
   refuses : List (List ℕ) → Refused → Verdict
   accepts : List (List ℕ) → Verdict
@@ -47,6 +50,9 @@ pub data Verdict : Type 0 where
   runs_free : List (List ℕ) → Shown → CellData → List TypedTree → Verdict
   lists : List (List ℕ) → CellData → List TypedTree → Verdict
   audits : List (List ℕ) → CellData → List TypedTree → List Event → List Fate → Verdict
+  states : List (List ℕ) → CellData → List TypedTree → List SourcesData → List Event → List Fate → Verdict
+  measures : List (List ℕ) → CellData → List TypedTree → Verdict
+  migrates : List (List ℕ) → List ℕ → Verdict
 
 -- what the read of a file of this number comes to
 abbrev pub file_text : Reads → ℕ → ℕ → List ℕ → Result (List ℕ) Refused
@@ -144,41 +150,63 @@ cell_or_refused script reads (Err broken) = Err (cell_refusal script reads broke
 abbrev pub checked : ScriptData → List ReadModule → Result MadeCell Refused
 checked script reads = typed_tasks script script.tasks reads >>= (λ trees. cell_or_refused script reads (make_cell script trees))
 
--- what is done with the names of the files that were read, and with the cell and the trees that they gave
+-- the modules of each task, of these texts, which are those of all modules in order
+abbrev pub sources_in : List ScriptTask → List (List ℕ) → List SourcesData
+sources_in [] texts = []
+sources_in (task ∷ tasks) texts =
+    let count = length task.modules in
+    record { files = task.modules; texts = take count texts } ∷ sources_in tasks (drop count texts)
+
+abbrev pub sources_of : ScriptData → List ReadModule → List SourcesData
+sources_of script reads = sources_in script.tasks (map (λ read. read.text) reads)
+
+-- what is done with the names of the files that were read, with the modules of each task, and with the cell and the
+-- trees that they gave
 abbrev pub Doing : Type 1
-Doing = List (List ℕ) → MadeCell → Verdict → Type 0
+Doing = List (List ℕ) → List SourcesData → MadeCell → Verdict → Type 0
 
--- what the text of a history comes to: the first line with which the lines so far start no history of the cell, or the
--- history that it spells
-abbrev pub HistoryDecides : Result (List ℕ) Refused → Doing
-HistoryDecides (Err refused) names made verdict = verdict ≡ refuses names refused
-HistoryDecides (Ok text) names made verdict =
-    ((line : ℕ) × IsFirstFault (names_of_cell made.cell) text line × (verdict ≡ refuses names (History line)))
-    ⊎ ((events : List Event) × (fates : List Fate) × Spells (names_of_cell made.cell) text events fates × (verdict ≡ audits names made.cell made.trees events fates))
+-- what the text of a history comes to: the first line with which the lines so far start no history of the cell, or this
+-- verdict on the history that it spells
+abbrev pub HistoryDecides : (List Event → List Fate → Verdict) → Result (List ℕ) Refused → List (List ℕ) → CellData → Verdict → Type 0
+HistoryDecides on (Err refused) names cell verdict = verdict ≡ refuses names refused
+HistoryDecides on (Ok text) names cell verdict =
+    ((line : ℕ) × IsFirstFault (names_of_cell cell) text line × (verdict ≡ refuses names (History line)))
+    ⊎ ((events : List Event) × (fates : List Fate) × Spells (names_of_cell cell) text events fates × (verdict ≡ on events fates))
 
--- What the action comes to if all is accepted, with this cell and these trees. `audit` reads one more file, of this
--- name, and this is what the read comes to. Words without an action are refused.
+-- the action reads the text of a history after all else is accepted
+abbrev pub reads_history : Action → Bool
+reads_history actions.Audit = true
+reads_history actions.State = true
+reads_history action = false
+
+-- What the action comes to if all is accepted, with this cell and these trees. `audit` and `state` read one more file,
+-- of this name, and this is what the read comes to. `migrate` asks for no cell, and words without an action are refused.
 abbrev pub ActionDecides : Option Action → List ℕ → Result (List ℕ) Refused → Doing
-ActionDecides (Some actions.Check) last read names made verdict = verdict ≡ accepts names
-ActionDecides (Some (actions.Round full)) last read names made verdict = verdict ≡ runs names (shows.Events full) made.cell made.trees
-ActionDecides (Some (actions.Run full)) last read names made verdict = verdict ≡ runs_free names (shows.Events full) made.cell made.trees
-ActionDecides (Some actions.List) last read names made verdict = verdict ≡ lists names made.cell made.trees
-ActionDecides (Some (actions.Load moves)) last read names made verdict = verdict ≡ runs names shows.Summary made.cell made.trees
-ActionDecides (Some actions.Audit) last read names made verdict = HistoryDecides read (names ++ last ∷ []) made verdict
-ActionDecides None last read names made verdict = ⊥
+ActionDecides (Some actions.Check) last read names sources made verdict = verdict ≡ accepts names
+ActionDecides (Some (actions.Round full)) last read names sources made verdict = verdict ≡ runs names (shows.Events full) made.cell made.trees
+ActionDecides (Some (actions.Run full)) last read names sources made verdict = verdict ≡ runs_free names (shows.Events full) made.cell made.trees
+ActionDecides (Some actions.List) last read names sources made verdict = verdict ≡ lists names made.cell made.trees
+ActionDecides (Some (actions.Load moves)) last read names sources made verdict = verdict ≡ runs names shows.Summary made.cell made.trees
+ActionDecides (Some actions.Audit) last read names sources made verdict =
+    HistoryDecides (audits (names ++ last ∷ []) made.cell made.trees) read (names ++ last ∷ []) made.cell verdict
+ActionDecides (Some actions.State) last read names sources made verdict =
+    HistoryDecides (states (names ++ last ∷ []) made.cell made.trees sources) read (names ++ last ∷ []) made.cell verdict
+ActionDecides (Some actions.Clearance) last read names sources made verdict = verdict ≡ measures names made.cell made.trees
+ActionDecides (Some actions.Migrate) last read names sources made verdict = ⊥
+ActionDecides None last read names sources made verdict = ⊥
 
 -- the same if the reads give these: the last file is read after those with these names
 abbrev pub ActionReads : Option Action → Reads → List ℕ → Doing
-ActionReads action gave last names made verdict = ActionDecides action last (file_text gave (length names) HISTORY_BYTES last) names made verdict
+ActionReads action gave last names sources made verdict = ActionDecides action last (file_text gave (length names) HISTORY_BYTES last) names sources made verdict
 
-abbrev pub CheckedDecides : Doing → List (List ℕ) → Result MadeCell Refused → Verdict → Type 0
-CheckedDecides acts names (Err refused) verdict = verdict ≡ refuses names refused
-CheckedDecides acts names (Ok made) verdict = acts names made verdict
+abbrev pub CheckedDecides : Doing → List (List ℕ) → List SourcesData → Result MadeCell Refused → Verdict → Type 0
+CheckedDecides acts names sources (Err refused) verdict = verdict ≡ refuses names refused
+CheckedDecides acts names sources (Ok made) verdict = acts names sources made verdict
 
 -- given the script, its modules and its cell
 abbrev pub ModulesDecide : Doing → List (List ℕ) → ScriptData → Result (List ReadModule) Refused → Verdict → Type 0
 ModulesDecide acts names script (Err refused) verdict = verdict ≡ refuses names refused
-ModulesDecide acts names script (Ok reads) verdict = CheckedDecides acts names (checked script reads) verdict
+ModulesDecide acts names script (Ok reads) verdict = CheckedDecides acts names (sources_of script reads) (checked script reads) verdict
 
 abbrev pub names_of : List ℕ → ScriptData → List (List ℕ)
 names_of name script = name ∷ module_names script.tasks
@@ -204,11 +232,31 @@ abbrev pub reads_for : Option Action → Reads → Reads
 reads_for (Some (actions.Load moves)) gave = load_reads moves
 reads_for _ gave = gave
 
+-- what the script's text comes to, if no module is read
+abbrev pub MigrationDecides : List ℕ → List ℕ → Read ScriptData → Verdict → Type 0
+MigrationDecides name text (Err broken) verdict = verdict ≡ refuses (name ∷ []) (Script broken.key broken.rule)
+MigrationDecides name text (Ok script) verdict = verdict ≡ migrates (name ∷ []) text
+
+abbrev pub AloneDecides : List ℕ → Result (List ℕ) Refused → Verdict → Type 0
+AloneDecides name (Err refused) verdict = verdict ≡ refuses (name ∷ []) refused
+AloneDecides name (Ok text) verdict = (script : Read ScriptData) × ScriptOf text script × MigrationDecides name text script verdict
+
+-- whether the action reads the script alone
+abbrev pub reads_script_alone : Option Action → Bool
+reads_script_alone (Some actions.Migrate) = true
+reads_script_alone _ = false
+
+-- what the files of the action come to, if it does or does not, where the script's file has the first of these names
+-- and the last file the second
+abbrev pub AskedDecides : Bool → Option Action → Reads → List ℕ → List ℕ → Verdict → Type 0
+AskedDecides true action gave name last verdict = AloneDecides name (file_text gave 0 SCRIPT_BYTES name) verdict
+AskedDecides false action gave name last verdict =
+    let reads = reads_for action gave in FilesDecide (ActionReads action reads last) reads name verdict
+
 abbrev pub WordsDecide : Reads → List (List ℕ) → Option ℕ → Verdict → Type 0
 WordsDecide gave words (Some place) verdict = verdict ≡ refuses [] (Words place)
 WordsDecide gave words None verdict =
-    let reads = reads_for (asked words) gave in
-    FilesDecide (ActionReads (asked words) reads (history_name words)) reads (script_name words) verdict
+    AskedDecides (reads_script_alone (asked words)) (asked words) gave (script_name words) (history_name words) verdict
 
 -- what the words and the files come to, if the reads give these
 pub record Accepted (words : List (List ℕ)) (gave : Reads) (verdict : Verdict) : Type 0 where

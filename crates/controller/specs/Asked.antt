@@ -4,6 +4,7 @@ use Rattle.rapid_limits.specs.declared.TheConstants.{SCRIPT_BYTES}
 use Rattle.outside.specs.Told.{Told}
 use Rattle.rapid_model.specs.ScriptData.{ScriptData, module_names}
 use Rattle.cell_assembly.specs.Made.{MadeCell}
+use Rattle.state_text.specs.StateLines.{SourcesData}
 use Rattle.command_words.specs.declared.command.Action.{Action}
 use Rattle.controller.specs.declared.refused.Refused.{Refused}
 use Rattle.command_words.specs.Words.{refused_place, script_name, history_name, asked}
@@ -31,13 +32,13 @@ pub record GiveTexts (words : List (List ℕ)) (told : Option Told) (action : Ac
   pub given : GiveScript words told action name history (Ok script)
   pub texts_are : AreTexts given.gave 1 (module_names script.tasks) texts failed
 
--- what is done with this cell, after the files with these names, is a verdict on the words and the files
-pub record IsToDo (words : List (List ℕ)) (told : Option Told) (acts : Doing) (names : List (List ℕ)) (made : MadeCell) : Type 0 where
-  pub verdicts : (verdict : Verdict) → acts names made verdict → IsVerdict words told verdict
+-- what is done with this cell and these modules, after the files with these names, is a verdict on the words and the files
+pub record IsToDo (words : List (List ℕ)) (told : Option Told) (acts : Doing) (names : List (List ℕ)) (sources : List SourcesData) (made : MadeCell) : Type 0 where
+  pub verdicts : (verdict : Verdict) → acts names sources made verdict → IsVerdict words told verdict
 
--- The action with this cell, and with this text of the file that it reads last, is what the words and the files come to:
--- whatever it comes to is a verdict on them.
-pub record IsAsked (words : List (List ℕ)) (told : Option Told) (action : Action) (made : MadeCell) (text : List ℕ) : Type 0 where
+-- The action with this cell, with these modules if it prints places, and with this text of the file that it reads last,
+-- is what the words and the files come to: whatever it comes to is a verdict on them.
+pub record IsAsked (words : List (List ℕ)) (told : Option Told) (action : Action) (made : MadeCell) (sources : List SourcesData) (text : List ℕ) : Type 0 where
   pub names : List (List ℕ)
   pub last : List ℕ
-  pub verdicts : (verdict : Verdict) → ActionDecides (Some action) last (Ok text) names made verdict → IsVerdict words told verdict
+  pub verdicts : (verdict : Verdict) → ActionDecides (Some action) last (Ok text) names sources made verdict → IsVerdict words told verdict

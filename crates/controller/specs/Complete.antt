@@ -7,23 +7,27 @@ use Rattle.rapid_meaning.specs.Asking.{tree_asks}
 use Rattle.cell_meaning.specs.Asking.{with_inputs}
 use Rattle.history_audit.specs.Audits.{IsAudit}
 use Rattle.history_audit.specs.declared.audit_fault.AuditFault.{AuditFault}
-use Rattle.controller.specs.Accepted.{Verdict, accepts, audits, lists, refuses, runs, runs_free}
+use Rattle.controller.specs.Accepted.{Verdict, accepts, audits, lists, migrates, refuses, runs, runs_free, measures, states}
 use Rattle.controller.specs.Answered.{IsOutOfMemory, IsVerdict}
 use Rattle.controller.specs.Audits.{audit_status}
 use Rattle.controller.specs.Printed.{Sunk}
 use Rattle.controller.specs.Refusals.{status_of}
 use Rattle.controller.specs.Runs.{run_status}
 
--- the status is the verdict's: that of the refusal, 0 for a check and a list, that of the history for a run, and that of
--- what is found for an audit
+-- the status is the verdict's: that of the refusal, 0 for a check, a list and a script in version 2, that of the history
+-- for a run, and that of what is found for an audit and for a state
 abbrev pub IsDone : Verdict → Report → Type 0
 IsDone (refuses names refused) report = (report.refused ≡ Some refused) × (report.status ≡ status_of refused)
 IsDone (accepts names) report = report.status ≡ 0
 IsDone (runs names shown cell trees) report = report.status ≡ run_status cell report.history.items
 IsDone (runs_free names shown cell trees) report = report.status ≡ run_status cell report.history.items
 IsDone (lists names cell trees) report = report.status ≡ 0
+IsDone (measures names cell trees) report = report.status ≡ run_status cell report.history.items
 IsDone (audits names cell trees events fates) report =
     (found : Result Bool AuditFault) × IsAudit (with_inputs (tree_asks trees) cell) cell events fates found × (report.status ≡ audit_status found)
+IsDone (states names cell trees sources events fates) report =
+    (found : Result Bool AuditFault) × IsAudit (with_inputs (tree_asks trees) cell) cell events fates found × (report.status ≡ audit_status found)
+IsDone (migrates names text) report = report.status ≡ 0
 
 -- If the first sink counts no fault, what the words and the files come to is done, or memory ran out before the first
 -- event.

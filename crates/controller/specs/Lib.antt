@@ -3,6 +3,9 @@ pub mod Files
 pub mod LoadFiles
 pub mod Output
 pub mod Audits
+pub mod ArmPaths
+pub mod Clearances
+pub mod Measured
 pub mod Accepted
 pub mod Loaded
 pub mod Runs

@@ -1,5 +1,5 @@
 -- What loading a script and its modules comes to, and how contracts see what is loaded.
-use Rattle.std.specs.Prelude.{◌≡◌, ℕ, ◌+◌, ◌≤◌, ◌<◌, ◌^◌, ◌⊎◌, List, [], ◌∷◌, map, length, Option, None, Some, Result, Ok, Err, Vec, All}
+use Rattle.std.specs.Prelude.{◌≡◌, ℕ, ◌+◌, ◌≤◌, ◌<◌, ◌^◌, ◌⊎◌, List, [], ◌∷◌, map, length, Option, None, Some, Result, Ok, Err, String, Vec, All, string_bytes}
 use Rattle.std.specs.Borrow.{Bor}
 use Rattle.std.specs.declared.alloc.Global.{Global}
 use Rattle.rapid_limits.specs.declared.TheConstants.{MODULE_BYTES}
@@ -19,12 +19,15 @@ use Rattle.cell_assembly.specs.Made.{MadeCell}
 use Rattle.typed_trees.specs.Views.{view_tree}
 use Rattle.typed_trees.specs.declared.tree.Tree.{Tree}
 use Rattle.accepted_cells.specs.Accepted.{IsAccepted}
+use Rattle.script_migration.specs.Migrated.{Migrates}
 use Rattle.controller.specs.declared.check.CheckedCell.{CheckedCell}
+use Rattle.controller.specs.declared.module_texts.ModuleTexts.{ModuleTexts}
 use Rattle.controller.specs.declared.modules.Modules.{Modules}
 use Rattle.controller.specs.declared.refused.Refused.{Refused}
 use Rattle.controller.specs.declared.refused.Refused.TheVariants.{Script, Memory}
 use Rattle.controller.specs.Files.{Reads}
-use Rattle.controller.specs.Accepted.{ReadModule, ModuleOf, file_text, rule_refusal, cell_refusal}
+use Rattle.state_text.specs.StateLines.{SourcesData}
+use Rattle.controller.specs.Accepted.{ReadModule, ModuleOf, file_text, rule_refusal, cell_refusal, sources_in}
 
 -- the names of the modules' files
 abbrev pub names_in_turn : List (Bor (List ℕ)) → List (List ℕ)
@@ -70,6 +73,13 @@ pub record ArePaired (modules : Modules) : Type 0 where
 abbrev pub IsScriptIn : Result (List ℕ) Refused → Result ScriptData Refused → Type 0
 IsScriptIn read (Ok script) = (text : List ℕ) × (read ≡ Ok text) × ScriptOf text (Ok script)
 IsScriptIn read (Err refused) =
+    (refused ≡ Memory) ⊎ ((read ≡ Err refused)
+    ⊎ ((text : List ℕ) × (broken : ScriptBreak) × (read ≡ Ok text) × ScriptOf text (Err broken) × (refused ≡ Script broken.key broken.rule)))
+
+-- the same of the script in version 2
+abbrev pub IsMigratedIn : Result (List ℕ) Refused → Result (String Global) Refused → Type 0
+IsMigratedIn read (Ok printed) = (text : List ℕ) × (read ≡ Ok text) × Migrates text (string_bytes printed)
+IsMigratedIn read (Err refused) =
     (refused ≡ Memory) ⊎ ((read ≡ Err refused)
     ⊎ ((text : List ℕ) × (broken : ScriptBreak) × (read ≡ Ok text) × ScriptOf text (Err broken) × (refused ≡ Script broken.key broken.rule)))
 
@@ -122,3 +132,13 @@ pub record HasScript (made : MadeCell) : Type 0 where
   pub script : ScriptData
   pub accepted : IsAccepted script made
   pub one_each : length made.trees ≡ length made.cell.tasks
+
+-- the modules of each task, for an action that prints places
+abbrev pub view_modules : Option ModuleTexts → List SourcesData
+view_modules None = []
+view_modules (Some modules) = sources_in modules.script.tasks (bytes_of modules.texts.items)
+
+-- their texts are within the limit of a module
+abbrev pub AreShort : Option ModuleTexts → Type 0
+AreShort None = Unit {0}
+AreShort (Some modules) = All IsWithin modules.texts.items

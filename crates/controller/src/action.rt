@@ -2,21 +2,24 @@ ghost use Rattle.std.specs.Prelude.{◌≡◌, ◌≢◌, ◌≤◌, ℕ, ◌↔
 ghost use Rattle.outside.specs.Count.{Rose};
 ghost use Rattle.rapid_limits.specs.declared.TheConstants.{HISTORY_BYTES};
 ghost use Rattle.controller.specs.Files.{IsDoneFault};
-ghost use Rattle.controller.specs.Loaded.{made_of, HasScript};
-ghost use Rattle.command_words.specs.Words.{is_run, refused_place};
+ghost use Rattle.controller.specs.Loaded.{made_of, view_modules, AreShort, HasScript};
+ghost use Rattle.command_words.specs.Words.{is_migrate, is_run, refused_place};
 ghost use Rattle.controller.specs.Printed.{sunk};
 ghost use Rattle.controller.specs.Answered.{AnswersWords, AnswersMade};
 ghost use Rattle.controller.specs.Complete.{IsComplete};
 
 use crate::accepted::accepted_cell;
 use crate::audit_cell::audit_cell;
-use crate::check::CheckedCell;
 use crate::list::list_cell;
+use crate::measure_cell::measure_cell;
+use crate::migrate::migrate;
+use crate::prepared::Prepared;
 use crate::refused::Refused;
 use crate::report::{Report, report_accepted};
 use crate::run::run_cell;
 use crate::shown::Shown;
-use command_words::Action;
+use crate::state_cell::state_cell;
+use command_words::{Action, is_migrate};
 use outside::{Shelf, Sink};
 use std::alloc::Global;
 use std::convert::AsSlice;
@@ -35,7 +38,17 @@ use std::convert::AsSlice;
 ///   of `E`;
 /// - for `audit CELL HISTORY`, which reads the lines of a history, as `--history` prints them, from the file HISTORY: one
 ///   line of `A`, which says that the cell can have this history, whole or up to some event, or the first event or fate
-///   that is wrong.
+///   that is wrong;
+/// - for `state CELL HISTORY`, if nothing is wrong with the history: for each persistent `P` and its number, its owner,
+///   its name and its value; then for each task a line of `V` for each of its module data, with its name and what it
+///   holds, and a line of `N`, with the file, the line and the column of the statement that it has reached and what it
+///   asks there. Otherwise the line of `A`;
+/// - for `clearance CELL`, which runs the cell as `round` does: for each zone of the cell, in script order, a line of `G`
+///   for each setpoint that its arm was given, or one for the start: the zone, the number of the event or `start`, the
+///   least distance on the way there in thousandths of a degree, the first fraction of the way that has it, and the
+///   sides of the zone that prove it; and a line of `C`, the first of these segments that came nearest; then the lines
+///   of `E`;
+/// - for `migrate CELL`, which reads no module: the script in version 2, as `migrate_script` prints it.
 ///
 /// `--history` may be given anywhere among the words, once: with it `round` prints, in place of `S` and `T`, the line
 /// of each event: `H`, its task, what was asked and what the cell answered. It always returns.
@@ -57,35 +70,65 @@ pub fn quiet<W: AsSlice<u8>, S: Shelf, O: Sink, E: Sink>(
     // If no write fails, what the words and the files come to is done, or memory ran out before the first event.
     ensures done { IsComplete (map W.items words.now) (S.told shelf.old) result (sunk O.told O.calls O.faults out.old out.new) (sunk E.told E.calls E.faults err.old err.new) }
 {
+    if is_migrate(words) {
+        migrate(alloc, words, shelf, out, err)
+    } else {
+        with_cell(alloc, words, shelf, out, err)
+    }
+}
+
+/// The same if the words ask for no `migrate` either.
+fn with_cell<W: AsSlice<u8>, S: Shelf, O: Sink, E: Sink>(
+    alloc: Global,
+    words: &[W],
+    shelf: &mut S,
+    out: &mut O,
+    err: &mut E,
+) -> Report
+    requires run { is_run (map W.items words.now) ≡ false }
+    requires migrate { is_migrate (map W.items words.now) ≡ false }
+    ensures answers { AnswersWords (map W.items words.now) (S.told shelf.old) result (sunk O.told O.calls O.faults out.old out.new) (sunk E.told E.calls E.faults err.old err.new) }
+    ensures words { (place : ℕ) → (result.refused ≡ Some (Refused.Words place)) ↔ (refused_place (map W.items words.now) ≡ Some place) }
+    ensures read { (file : ℕ) → result.refused ≡ Some (Refused.Read file) → Rose (S.faults shelf.old) (S.faults shelf.new) }
+    ensures write { result.refused ≡ Some Refused.Write → Rose (O.faults out.old) (O.faults out.new) }
+    ensures done { IsComplete (map W.items words.now) (S.told shelf.old) result (sunk O.told O.calls O.faults out.old out.new) (sunk E.told E.calls E.faults err.old err.new) }
+{
     match accepted_cell(alloc, words, shelf, err) {
-        Ok((action, accepted, text)) => {
-            do_accepted(alloc, action, accepted, text.as_slice(), out, err)
-        }
+        Ok((action, prepared)) => do_prepared(alloc, action, prepared, out, err),
         Err(report) => report,
     }
 }
 
-/// Does the action, which is not `run`, with an accepted cell; `audit` with this text of a history.
-fn do_accepted<O: Sink, E: Sink>(
+/// Does the action, which is neither `run` nor `migrate`.
+fn do_prepared<O: Sink, E: Sink>(
     alloc: Global,
     action: Action,
-    accepted: CheckedCell,
-    text: &[u8],
+    prepared: Prepared,
     out: &mut O,
     err: &mut E,
 ) -> Report
-    requires script { HasScript (made_of accepted) }
+    requires script { HasScript (made_of prepared.accepted) }
     requires other { (full : Bool) → action ≢ Action.Run full }
-    requires within { length text.now ≤ HISTORY_BYTES }
-    ensures answers { (last : List ℕ) (names : List (List ℕ)) → AnswersMade action last text.now names (made_of accepted) result (sunk O.told O.calls O.faults out.old out.new) (sunk E.told E.calls E.faults err.old err.new) }
+    requires cell { action ≢ Action.Migrate }
+    requires within { length prepared.text.items ≤ HISTORY_BYTES }
+    requires modules { AreShort prepared.modules }
+    ensures answers { (last : List ℕ) (names : List (List ℕ)) → AnswersMade action last prepared.text.items names (view_modules prepared.modules) (made_of prepared.accepted) result (sunk O.told O.calls O.faults out.old out.new) (sunk E.told E.calls E.faults err.old err.new) }
     ensures causes { IfSome result.refused (IsDoneFault (O.faults out.old) (O.faults out.new)) }
 {
+    let Prepared {
+        accepted,
+        modules,
+        text,
+    } = prepared;
     match action {
         Action::Check => report_accepted(alloc, out, err),
         Action::Round { full } => run_cell(alloc, accepted, Shown::Events { full }, out, err),
         Action::List => list_cell(alloc, &accepted, out, err),
         Action::Load { .. } => run_cell(alloc, accepted, Shown::Summary, out, err),
-        Action::Audit => audit_cell(alloc, accepted, text, out, err),
+        Action::Audit => audit_cell(alloc, accepted, text.as_slice(), out, err),
+        Action::State => state_cell(alloc, accepted, &modules, text.as_slice(), out, err),
+        Action::Clearance => measure_cell(alloc, accepted, out, err),
         Action::Run { .. } => unreachable!(),
+        Action::Migrate => unreachable!(),
     }
 }

@@ -1,22 +1,19 @@
 //! The audit of a printed history.
 
-ghost use Rattle.std.specs.Prelude.{◌≡◌, ◌≤◌, ℕ, List, All, IfOk, IfSome, length, map};
-ghost use Rattle.rapid_model.specs.declared.event.Event.{Event};
-ghost use Rattle.rapid_model.specs.declared.fate.Fate.{Fate};
-ghost use Rattle.typed_trees.specs.Plain.{TypedTree};
+ghost use Rattle.std.specs.Prelude.{◌≡◌, ◌≤◌, ℕ, List, [], ◌∷◌, All, IfOk, IfSome, length, map};
 ghost use Rattle.typed_trees.specs.Views.{view_tree};
 ghost use Rattle.stack_code.specs.Compiled.{compiled};
 ghost use Rattle.task_code.specs.Asking.{CodeAsks};
 ghost use Rattle.task_code.specs.Live.{CodeFits};
 ghost use Rattle.code_laws.specs.Checked.{IsChecked};
-ghost use Rattle.rapid_meaning.specs.Asking.{tree_asks};
 ghost use Rattle.cell_meaning.specs.Asking.{with_inputs};
 ghost use Rattle.cell_crew.specs.Courses.{SuitTasks};
 ghost use Rattle.cell_crew.specs.Crew.{AskAsPrograms};
 ghost use Rattle.history_audit.specs.Audits.{IsAudit};
 ghost use Rattle.rapid_limits.specs.declared.TheConstants.{HISTORY_BYTES};
-ghost use Rattle.controller.specs.Answered.{AnswersAudit, AnswersHistory, AuditsOrMemory};
-ghost use Rattle.controller.specs.Audits.{audit_status};
+ghost use Rattle.controller.specs.Accepted.{audits};
+ghost use Rattle.controller.specs.Answered.{AnswersHistory, AuditsOrMemory, PrintsBy, RanNothing};
+ghost use Rattle.controller.specs.Audits.{audit_line, audit_status};
 ghost use Rattle.controller.specs.Files.{IsDoneFault};
 ghost use Rattle.controller.specs.Loaded.{made_of, HasScript};
 ghost use Rattle.controller.specs.Printed.{sunk};
@@ -42,9 +39,9 @@ use typed_trees::Tree;
 
 /// What was found of a history, and a core of its cell, which is of no further use but for its names.
 #[derive(Drop)]
-struct Audited {
-    core: Core,
-    found: Result<bool, AuditFault>,
+pub(crate) struct Audited {
+    pub core: Core,
+    pub found: Result<bool, AuditFault>,
 }
 
 /// Audits the history that a text spells with an accepted cell, and reports it; or reports the first line with which the
@@ -58,7 +55,7 @@ pub(crate) fn audit_cell<O: Sink, E: Sink>(
 ) -> Report
     requires script { HasScript (made_of accepted) }
     requires within { length text.now ≤ HISTORY_BYTES }
-    ensures answers { (names : List (List ℕ)) → AnswersHistory text.now names (made_of accepted) result (sunk O.told O.calls O.faults out.old out.new) (sunk E.told E.calls E.faults err.old err.new) }
+    ensures answers { (names : List (List ℕ)) → AnswersHistory (audits names accepted.cell (map view_tree accepted.trees.items)) text.now names accepted.cell result (sunk O.told O.calls O.faults out.old out.new) (sunk E.told E.calls E.faults err.old err.new) }
     ensures causes { IfSome result.refused (IsDoneFault (O.faults out.old) (O.faults out.new)) }
 {
     let named = names_of(&accepted.cell);
@@ -97,7 +94,7 @@ fn audit_events<O: Sink, E: Sink>(
 }
 
 /// What is found of a history of a cell, given the trees of its tasks.
-fn audit_history<A: Askers>(
+pub(crate) fn audit_history<A: Askers>(
     alloc: Global,
     cell: Cell,
     trees: &[Tree],
@@ -124,14 +121,15 @@ fn audit_history<A: Askers>(
 }
 
 /// Prints what was found of a history of this many events, and reports it.
-fn report_audit<O: Sink, E: Sink>(
+pub(crate) fn report_audit<O: Sink, E: Sink>(
     alloc: Global,
     audited: &Audited,
     count: usize,
     out: &mut O,
     err: &mut E,
 ) -> Report
-    ensures { (trees : List TypedTree) (events : List Event) (fates : List Fate) → count ≡ length events → IsAudit (with_inputs (tree_asks trees) audited.now.core.cell) audited.now.core.cell events fates audited.now.found → AnswersAudit audited.now.core.cell trees events fates result (sunk O.told O.calls O.faults out.old out.new) (sunk E.told E.calls E.faults err.old err.new) }
+    ensures nothing { RanNothing result }
+    ensures printed { PrintsBy (audit_status audited.now.found) (audit_line audited.now.core.cell.tasks count audited.now.found ∷ []) result (sunk O.told O.calls O.faults out.old out.new) (sunk E.told E.calls E.faults err.old err.new) }
 {
     match print_audit(out, &names_of(audited.core.cell()), count, &audited.found) {
         Ok(()) => Report {

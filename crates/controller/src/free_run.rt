@@ -18,6 +18,7 @@ ghost use Rattle.controller.specs.Complete.{IsComplete};
 
 use crate::accepted::accepted_cell;
 use crate::check::CheckedCell;
+use crate::prepared::Prepared;
 use crate::refused::Refused;
 use crate::report::{Report, refuse};
 use crate::run::{crew_of, report_run, within_limits};
@@ -69,8 +70,9 @@ pub fn free<R: Threads + Wait + Sync, W: AsSlice<u8>, S: Shelf, O: Sink, E: Sink
     ensures done { IsComplete (map W.items words.now) (S.told shelf.old) result (sunk O.told O.calls O.faults out.old out.new) (sunk E.told E.calls E.faults err.old err.new) }
 {
     match accepted_cell(alloc, words, shelf, err) {
-        Ok((action, accepted, _)) => {
+        Ok((action, prepared)) => {
             let full = is_full(action);
+            let Prepared { accepted, .. } = prepared;
             free_cell(rt, alloc, accepted, full, out, err, pace)
         }
         Err(report) => report,

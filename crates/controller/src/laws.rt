@@ -32,9 +32,9 @@ pub fn given_setpoints_miss_zones<A: Askers>()
 {}
 
 /// A law: the clauses of `controller`, `quiet` and `free` imply that what the words and the files come to is done. If
-/// the shelf reports its files and the first sink counts no fault, the status is that of the refusal, or 0 for `check`
-/// and `list`, or 0, 1, 8 or 9 for a run, as its history says, or 0 or 12 for `audit`, as what is found says; or memory
-/// ran out before the first event.
+/// the shelf reports its files and the first sink counts no fault, the status is that of the refusal, or 0 for `check`,
+/// `list` and `migrate`, or 0, 1, 8 or 9 for a run, as its history says, or 0 or 12 for `audit` and `state`, as what is
+/// found says; or memory ran out before the first event.
 pub fn what_is_asked_is_done()
     ensures done { (words : List (List ℕ)) (files : Told) (verdict : Verdict) (report : Report) (out err : Sunk) → AnswersWords words (Some files) report out err → (report.refused ≡ Some Write → Rose out.old.faults out.new.faults) → ¬ Rose out.old.faults out.new.faults → Accepted words (told_reads files) verdict → IsOutOfMemory report out err ⊎ IsDone verdict report }
     ensures statuses { (cell : CellData) (history : List Event) → (run_status cell history ≡ 0) ⊎ ((run_status cell history ≡ 1) ⊎ ((run_status cell history ≡ 8) ⊎ (run_status cell history ≡ 9))) }

@@ -1,6 +1,6 @@
 //! The controller: command words and files in, a report and printed lines out. It loads, checks and compiles a cell,
-//! runs it round-robin or on threads or audits a history of it, and prints the run, the tables, what was found or the
-//! refusal.
+//! runs it round-robin or on threads, measures a run, audits a history of it or tells the state after one, and prints the
+//! run, the tables, what was found, the state, the script in version 2 or the refusal.
 #![tactic(auto)]
 
 mod accepted;
@@ -13,16 +13,25 @@ mod free_run;
 mod laws;
 mod list;
 mod load_cell;
+mod measure_cell;
+mod migrate;
+mod module_texts;
 mod modules;
+mod nearest;
+mod prepared;
 mod print;
 mod print_audit;
+mod print_clearances;
+mod print_gap;
 mod print_list;
+mod print_state;
 mod print_summary;
 mod refused;
 mod report;
 mod run;
 mod shelf_cell;
 mod shown;
+mod state_cell;
 mod texts;
 mod texts_cell;
 mod top;

@@ -1,4 +1,4 @@
-ghost use Rattle.std.specs.Prelude.{◌≡◌, ℕ, List, Option, IfOk, IfErr, IfSome, map};
+ghost use Rattle.std.specs.Prelude.{◌≡◌, ℕ, List, [], Option, IfOk, IfErr, IfSome, map};
 ghost use Rattle.outside.specs.Told.{Told};
 ghost use Rattle.cell_load.specs.Views.{view_modules};
 ghost use Rattle.controller.specs.Files.{IsLoadFault};
@@ -13,7 +13,7 @@ use crate::check::CheckedCell;
 use crate::files::module_files;
 use crate::refused::Refused;
 use crate::report::{Report, refuse, refuse_file};
-use crate::texts::{Texts, script_of};
+use crate::texts::script_of;
 use crate::texts_cell::texts_cell;
 use cell_load::make_load;
 use command_words::{Action, Command};
@@ -31,7 +31,7 @@ pub(crate) fn load_cell<E: Sink>(
     requires moves { AreMoves moves }
     ensures refused { IfErr result (λ report. (words : List (List ℕ)) (told : Option Told) (held : Seen) → AreFor words command.now.action command.now.script.now command.now.history.now → AnswersWords words told report (untouched held) (sunk E.told E.calls E.faults err.old err.new)) }
     ensures causes { IfErr result (λ report. (old new : ℕ) → IfSome report.refused (IsLoadFault old new)) }
-    ensures asked { IfOk result (λ accepted. (words : List (List ℕ)) (told : Option Told) (text : List ℕ) → AreFor words command.now.action command.now.script.now command.now.history.now → IsAsked words told command.now.action (made_of accepted) text) }
+    ensures asked { IfOk result (λ accepted. (words : List (List ℕ)) (told : Option Told) (text : List ℕ) → AreFor words command.now.action command.now.script.now command.now.history.now → IsAsked words told command.now.action (made_of accepted) [] text) }
     ensures script { IfOk result (λ accepted. HasScript (made_of accepted)) }
     ensures untold { IfOk result (λ _. err.new ≡ err.old) }
 {
@@ -49,13 +49,10 @@ pub(crate) fn load_cell<E: Sink>(
     };
     let files = names.as_slice();
     let texts = match own_texts(alloc, load.modules.as_slice(), files) {
-        Ok(texts) => Texts {
-            texts,
-            failed: None,
-        },
+        Ok(texts) => texts,
         Err(_) => return Err(refuse(alloc, err, "", Refused::Memory)),
     };
-    texts_cell(alloc, command, &script, files, texts, err)
+    texts_cell(alloc, command, &script, files, texts.as_slice(), None, err)
 }
 
 /// The texts of the modules with these names, in order.

@@ -84,7 +84,7 @@ pub(crate) fn rows_of(core: &Core) -> &[TaskRow]
 }
 
 /// Prints the fate of each task, in script order.
-fn print_fates<O: Sink>(out: &mut O, core: &Core) -> Result<(), Failed>
+pub(crate) fn print_fates<O: Sink>(out: &mut O, core: &Core) -> Result<(), Failed>
     ensures { Writes (fate_lines core.now.cell.tasks (fates_after core.now.cell core.now.history (length core.now.cell.tasks))) result (sunk O.told O.calls O.faults out.old out.new) }
 {
     let rows = rows_of(core);

@@ -4,7 +4,7 @@ ghost use Rattle.controller.specs.Loaded.{file_names};
 ghost use Rattle.controller.specs.Printed.{sunk, Seen};
 ghost use Rattle.controller.specs.Written.{TakesLine};
 ghost use Rattle.controller.specs.Refusals.{status_of, refusal_text, refusal_line, name_at, file_of};
-ghost use Rattle.controller.specs.Answered.{untouched, AnswersAccepted, IsOutOfMemory};
+ghost use Rattle.controller.specs.Answered.{untouched, AnswersAccepted, AnswersText, IsOutOfMemory};
 
 use crate::print::write_all;
 use crate::refused::{Refused, tell_refusal};
@@ -13,12 +13,12 @@ use rapid_model::{Event, Fate};
 use std::alloc::Global;
 
 /// The outcome of a call: its status, the history of the run, the fate of each task in script order, and the refusal,
-/// if there is one. Only `round`, `run` and `load` make a history and fates, and print lines of them. A refusal other
-/// than `Write` leaves none.
+/// if there is one. Only `round`, `run`, `load` and `clearance` make a history and fates. A refusal other than `Write`
+/// leaves none.
 ///
-/// Without a refusal the status is 0 for `check` and `list`. For a run it is 0 if every task ended without a fault, 1
-/// if every task ended and one with a fault, 8 if no task that has not ended can go on, and 9 if the steps are spent.
-/// For `audit` it is 0 if nothing is wrong with the history, and 12 otherwise.
+/// Without a refusal the status is 0 for `check`, `list` and `migrate`. For a run, measured or not, it is 0 if every task
+/// ended without a fault, 1 if every task ended and one with a fault, 8 if no task that has not ended can go on, and 9 if
+/// the steps are spent. For `audit` and `state` it is 0 if nothing is wrong with the history, and 12 otherwise.
 #[derive(Debug, Drop)]
 pub struct Report {
     pub status: u8,
@@ -31,7 +31,19 @@ pub struct Report {
 pub(crate) fn report_accepted<O: Sink, E: Sink>(alloc: Global, out: &mut O, err: &mut E) -> Report
     ensures { AnswersAccepted result (sunk O.told O.calls O.faults out.old out.new) (sunk E.told E.calls E.faults err.old err.new) }
 {
-    match write_all(out, b"accepted\n") {
+    report_text(alloc, b"accepted\n", out, err)
+}
+
+/// Prints a text in one piece, and reports it.
+pub(crate) fn report_text<O: Sink, E: Sink>(
+    alloc: Global,
+    text: &[u8],
+    out: &mut O,
+    err: &mut E,
+) -> Report
+    ensures { AnswersText text.now result (sunk O.told O.calls O.faults out.old out.new) (sunk E.told E.calls E.faults err.old err.new) }
+{
+    match write_all(out, text) {
         Ok(()) => Report {
             status: 0,
             history: Vec::new(alloc),

@@ -16,7 +16,7 @@ ghost use Rattle.task_steps.specs.Phases as phases;
 ghost use Rattle.controller.specs.Loaded.{made_of, HasScript};
 ghost use Rattle.controller.specs.Runs.{is_fault, run_status, IsRunByTurns, TellsRun};
 ghost use Rattle.controller.specs.Printed.{sunk};
-ghost use Rattle.controller.specs.Answered.{RunsOrMemory, AnswersRun};
+ghost use Rattle.controller.specs.Answered.{RunsOrMemory, AnswersRun, Closes};
 
 use crate::check::CheckedCell;
 use crate::code::compile_one;
@@ -30,7 +30,7 @@ use accepted_cells::{
 use cell_core::Core;
 use cell_crew::run_round;
 use cell_meaning::Askers;
-use outside::Sink;
+use outside::{Failed, Sink};
 use rapid_model::{Cell, Fate};
 use std::alloc::{AllocError, Global};
 use std::marker::Brand;
@@ -60,7 +60,11 @@ pub(crate) fn run_cell<O: Sink, E: Sink>(
 }
 
 /// Runs the tasks of a cell, given their trees, round-robin. All memory is taken before the first event.
-fn run_tasks<A: Askers>(alloc: Global, cell: Cell, trees: &[Tree]) -> Result<Core, AllocError>
+pub(crate) fn run_tasks<A: Askers>(
+    alloc: Global,
+    cell: Cell,
+    trees: &[Tree],
+) -> Result<Core, AllocError>
     requires one_each { length trees.now ≡ length cell.tasks }
     requires checked { All IsChecked (map view_tree trees.now) }
     requires programs { AskAsPrograms CodeFits CodeAsks A.asks (map compiled (map view_tree trees.now)) }
@@ -114,26 +118,40 @@ pub(crate) fn report_run<O: Sink, E: Sink>(
     ensures { AnswersRun (TellsRun core.cell core.history) shown core.cell result (sunk O.told O.calls O.faults out.old out.new) (sunk E.told E.calls E.faults err.old err.new) }
 {
     let status = status_of_run(&core);
-    match print_run(out, &core, shown) {
-        Ok(()) => {
-            let (history, fates) = core.into_report();
-            Report {
-                status,
-                history,
-                fates,
-                refused: None,
-            }
-        }
+    let printed = print_run(out, &core, shown);
+    report_printed(core, status, printed, err)
+}
+
+/// Reports a run with this status whose lines were printed, or not all of them.
+pub(crate) fn report_printed<E: Sink>(
+    core: Core,
+    status: u8,
+    printed: Result<(), Failed>,
+    err: &mut E,
+) -> Report
+    ensures tells { TellsRun core.cell core.history result }
+    ensures closed { Closes status printed result (sunk E.told E.calls E.faults err.old err.new) }
+{
+    match printed {
+        Ok(()) => report_of(core, status, None),
         Err(_) => {
             tell_refusal(err, "", &Refused::Write);
-            let (events, stands) = core.into_report();
-            Report {
-                status: 6,
-                history: events,
-                fates: stands,
-                refused: Some(Refused::Write),
-            }
+            report_of(core, 6, Some(Refused::Write))
         }
+    }
+}
+
+fn report_of(core: Core, status: u8, refused: Option<Refused>) -> Report
+    ensures tells { TellsRun core.cell core.history result }
+    ensures status { result.status ≡ status }
+    ensures refused { result.refused ≡ refused }
+{
+    let (history, fates) = core.into_report();
+    Report {
+        status,
+        history,
+        fates,
+        refused,
     }
 }
 
@@ -146,7 +164,7 @@ pub(crate) fn within_limits(cell: &Cell)
 
 /// The status of a printed run: if all tasks ended, 1 if one ended with a fault, else 0; otherwise 9 if the steps are
 /// spent, and 8 if no task that has not ended can go on.
-fn status_of_run(core: &Core) -> u8
+pub(crate) fn status_of_run(core: &Core) -> u8
     ensures { result ≡ run_status core.now.cell core.now.history }
 {
     if core.all_ended() {

@@ -1,36 +1,41 @@
-ghost use Rattle.std.specs.Prelude.{◌≡◌, ◌≢◌, ◌≤◌, ℕ, List, IfOk, IfErr, IfSome, length};
+ghost use Rattle.std.specs.Prelude.{◌≡◌, ◌≢◌, ◌≤◌, ℕ, List, All, IfOk, IfErr, IfSome, length};
 ghost use Rattle.rapid_limits.specs.declared.TheConstants.{HISTORY_BYTES};
 ghost use Rattle.controller.specs.Files.{IsLoadFault};
-ghost use Rattle.controller.specs.Loaded.{made_of, HasScript};
+ghost use Rattle.controller.specs.Accepted.{sources_in};
+ghost use Rattle.controller.specs.Loaded.{bytes_of, made_of, view_modules, AreShort, HasScript, IsWithin};
 ghost use Rattle.controller.specs.Printed.{sunk, Seen};
 ghost use Rattle.controller.specs.Answered.{untouched, AnswersWords};
 ghost use Rattle.controller.specs.Asked.{AreFor, IsAsked};
 
-use crate::check::CheckedCell;
 use crate::files::module_files;
+use crate::module_texts::ModuleTexts;
+use crate::prepared::Prepared;
 use crate::refused::Refused;
 use crate::report::{Report, refuse, refuse_file};
-use crate::texts::{load_last, load_script, load_texts};
+use crate::texts::{Texts, load_last, load_script, load_texts};
 use crate::texts_cell::texts_cell;
 use command_words::{Action, Command};
 use outside::{Shelf, Sink};
+use rapid_model::Script;
 use std::alloc::Global;
 
-/// The cell of the script in the file that a command names, and of the modules that it names, and the text of the
-/// history that `audit` names, which is read last; for another action the text is empty. Otherwise the report of the
-/// refusal, whose line is printed.
+/// What an action is done with, by the script in the file that a command names and the modules that it names: the cell,
+/// for `state` also the texts of the modules, and for `audit` and `state` the text of the history, which is read last.
+/// Otherwise the report of the refusal, whose line is printed.
 pub(crate) fn shelf_cell<S: Shelf, E: Sink>(
     alloc: Global,
     command: &Command<'_>,
     shelf: &mut S,
     err: &mut E,
-) -> Result<(CheckedCell, Vec<u8>), Report>
-    requires { (moves : ℕ) → command.now.action ≢ Action.Load moves }
+) -> Result<Prepared, Report>
+    requires moves { (moves : ℕ) → command.now.action ≢ Action.Load moves }
+    requires cell { command.now.action ≢ Action.Migrate }
     ensures refused { IfErr result (λ report. (words : List (List ℕ)) (held : Seen) → AreFor words command.now.action command.now.script.now command.now.history.now → AnswersWords words (S.told shelf.old) report (untouched held) (sunk E.told E.calls E.faults err.old err.new)) }
     ensures causes { IfErr result (λ report. IfSome report.refused (IsLoadFault (S.faults shelf.old) (S.faults shelf.new))) }
-    ensures asked { IfOk result (λ found. (words : List (List ℕ)) → AreFor words command.now.action command.now.script.now command.now.history.now → IsAsked words (S.told shelf.old) command.now.action (made_of found.0) found.1.items) }
-    ensures within { IfOk result (λ found. length found.1.items ≤ HISTORY_BYTES) }
-    ensures script { IfOk result (λ found. HasScript (made_of found.0)) }
+    ensures asked { IfOk result (λ found. (words : List (List ℕ)) → AreFor words command.now.action command.now.script.now command.now.history.now → IsAsked words (S.told shelf.old) command.now.action (made_of found.accepted) (view_modules found.modules) found.text.items) }
+    ensures within { IfOk result (λ found. length found.text.items ≤ HISTORY_BYTES) }
+    ensures modules { IfOk result (λ found. AreShort found.modules) }
+    ensures script { IfOk result (λ found. HasScript (made_of found.accepted)) }
     ensures untold { IfOk result (λ _. err.new ≡ err.old) }
 {
     let script = match load_script(alloc, shelf, command.script) {
@@ -42,13 +47,32 @@ pub(crate) fn shelf_cell<S: Shelf, E: Sink>(
         Err(_) => return Err(refuse(alloc, err, "", Refused::Memory)),
     };
     let files = names.as_slice();
-    let texts = load_texts(alloc, shelf, files);
-    let accepted = match texts_cell(alloc, command, &script, files, texts, err) {
+    let Texts { texts, failed } = load_texts(alloc, shelf, files);
+    let read = texts.as_slice();
+    let accepted = match texts_cell(alloc, command, &script, files, read, failed, err) {
         Ok(accepted) => accepted,
         Err(report) => return Err(report),
     };
     match load_last(alloc, shelf, command, files.len() as u32 + 1) {
-        Ok(text) => Ok((accepted, text)),
+        Ok(text) => {
+            drop(names);
+            Ok(Prepared {
+                accepted,
+                modules: kept_modules(command.action, script, texts),
+                text,
+            })
+        }
         Err(refused) => Err(refuse(alloc, err, command.history, refused)),
+    }
+}
+
+/// The modules that an action prints places of.
+fn kept_modules(action: Action, script: Script, texts: Vec<Vec<u8>>) -> Option<ModuleTexts>
+    ensures kept { action ≡ Action.State → view_modules result ≡ sources_in script.tasks (bytes_of texts.items) }
+    ensures short { All IsWithin texts.items → AreShort result }
+{
+    match action {
+        Action::State => Some(ModuleTexts { script, texts }),
+        _ => None,
     }
 }

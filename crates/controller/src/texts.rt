@@ -1,6 +1,7 @@
-ghost use Rattle.std.specs.Prelude.{◌≡◌, ℕ, ◌+◌, ◌≤◌, ◌<◌, ◌^◌, List, Option, None, Some, Ok, IfOk, IfErr, IfSome, option_map, length, All};
+ghost use Rattle.std.specs.Prelude.{◌≡◌, ℕ, ◌+◌, ◌≤◌, ◌<◌, ◌^◌, List, Option, None, Some, Ok, IfOk, IfErr, IfSome, IsTrue, option_map, length, All};
 ghost use Rattle.outside.specs.Told.{Told, found, after_reads};
 ghost use Rattle.controller.specs.Files.{text_of, told_reads, IsLoadFault, IsUnread, GivesText};
+ghost use Rattle.controller.specs.Accepted.{reads_history};
 ghost use Rattle.controller.specs.Loaded.{names_in_turn, bytes_of, IsScriptIn, IsWithin, AreTexts};
 
 use crate::refused::Refused;
@@ -89,8 +90,8 @@ pub(crate) fn load_texts<S: Shelf>(alloc: Global, shelf: &mut S, modules: &[&str
     }
 }
 
-/// The text of the file that an action reads last, by its number: for `audit` the history. Other actions read no such
-/// file, and it is empty.
+/// The text of the file that an action reads last, by its number: for `audit` and `state` the history. Other actions read
+/// no such file, and it is empty.
 pub(crate) fn load_last<S: Shelf>(
     alloc: Global,
     shelf: &mut S,
@@ -99,18 +100,24 @@ pub(crate) fn load_last<S: Shelf>(
 ) -> Result<Vec<u8>, Refused>
     ensures faults { S.faults shelf.old ≤ S.faults shelf.new }
     ensures causes { IfErr result (IsLoadFault (S.faults shelf.old) (S.faults shelf.new)) }
-    ensures unread { IfErr result (λ refused. (command.now.action ≡ Action.Audit) × IsUnread file refused) }
+    ensures unread { IfErr result (λ refused. IsTrue (reads_history command.now.action) × IsUnread file refused) }
     ensures within { IfOk result (λ text. length text.items ≤ HISTORY_BYTES) }
-    ensures gives { command.now.action ≡ Action.Audit → IfSome (S.told shelf.old) (λ told. GivesText (text_of file HISTORY_BYTES (found told command.now.history.now)) result) }
+    ensures gives { IsTrue (reads_history command.now.action) → IfSome (S.told shelf.old) (λ told. GivesText (text_of file HISTORY_BYTES (found told command.now.history.now)) result) }
 {
     match command.action {
-        Action::Audit => read_file(alloc, shelf, file, HISTORY_BYTES, command.history),
+        Action::Audit | Action::State => read_file(
+            alloc,
+            shelf,
+            file,
+            HISTORY_BYTES,
+            command.history,
+        ),
         _ => Ok(Vec::new(alloc)),
     }
 }
 
 /// The bytes of a file, or why it could not be read.
-fn read_file<S: Shelf>(
+pub(crate) fn read_file<S: Shelf>(
     alloc: Global,
     shelf: &mut S,
     file: u32,

@@ -2,7 +2,7 @@ ghost use Rattle.std.specs.Prelude.{◌≡◌, ◌<◌, ◌^◌, ℕ, List, None
 ghost use Rattle.rapid_model.specs.ScriptData.{module_names};
 ghost use Rattle.outside.specs.Told.{Told};
 ghost use Rattle.std.specs.Prelude.{Option};
-ghost use Rattle.controller.specs.Accepted.{ActionReads, checked};
+ghost use Rattle.controller.specs.Accepted.{ActionReads, checked, sources_in};
 ghost use Rattle.controller.specs.Files.{IsLoadFault, Reads};
 ghost use Rattle.controller.specs.Loaded.{bytes_of, file_names, made_of, names_in_turn, reads_in, ArePaired, AreSpelled, HasScript, IsWithin};
 ghost use Rattle.controller.specs.Printed.{sunk, Seen};
@@ -13,40 +13,39 @@ use crate::check::{CheckedCell, check_modules};
 use crate::modules::{Modules, parse_texts};
 use crate::refused::Refused;
 use crate::report::{Report, refuse_file};
-use crate::texts::Texts;
 use command_words::Command;
 use outside::Sink;
 use rapid_model::Script;
 use std::alloc::Global;
 
 /// The cell of a script and of the texts of its modules, whose files have these names. Otherwise the report of the
-/// refusal, whose line is printed. The texts are freed by then.
+/// refusal, whose line is printed. `failed` is why the next text could not be read, if there is one.
 pub(crate) fn texts_cell<E: Sink>(
     alloc: Global,
     command: &Command<'_>,
     script: &Script,
     files: &[&str],
-    found: Texts,
+    texts: &[Vec<u8>],
+    failed: Option<Refused>,
     err: &mut E,
 ) -> Result<CheckedCell, Report>
     requires named { names_in_turn files.now ≡ module_names script.now.tasks }
-    requires few { length found.texts.items < 2 ^ 31 }
-    requires within { All IsWithin found.texts.items }
+    requires few { length texts.now < 2 ^ 31 }
+    requires within { All IsWithin texts.now }
     // After a refusal nothing more is done, and the first sink gained nothing.
-    ensures refused { IfErr result (λ report. (words : List (List ℕ)) (told : Option Told) (held : Seen) → GiveTexts words told command.now.action command.now.script.now command.now.history.now script.now (bytes_of found.texts.items) found.failed → AnswersWords words told report (untouched held) (sunk E.told E.calls E.faults err.old err.new)) }
-    ensures causes { IfErr result (λ report. (old new : ℕ) → IfSome found.failed (IsLoadFault old new) → IfSome report.refused (IsLoadFault old new)) }
+    ensures refused { IfErr result (λ report. (words : List (List ℕ)) (told : Option Told) (held : Seen) → GiveTexts words told command.now.action command.now.script.now command.now.history.now script.now (bytes_of texts.now) failed → AnswersWords words told report (untouched held) (sunk E.told E.calls E.faults err.old err.new)) }
+    ensures causes { IfErr result (λ report. (old new : ℕ) → IfSome failed (IsLoadFault old new) → IfSome report.refused (IsLoadFault old new)) }
     // Otherwise the action is to be done with this cell.
-    ensures asked { IfOk result (λ accepted. (words : List (List ℕ)) (told : Option Told) (given : GiveTexts words told command.now.action command.now.script.now command.now.history.now script.now (bytes_of found.texts.items) found.failed) → IsToDo words told (ActionReads (Some command.now.action) given.given.gave command.now.history.now) (file_names command.now.script.now files.now) (made_of accepted)) }
-    ensures whole { IfOk result (λ _. found.failed ≡ None) }
+    ensures asked { IfOk result (λ accepted. (words : List (List ℕ)) (told : Option Told) (given : GiveTexts words told command.now.action command.now.script.now command.now.history.now script.now (bytes_of texts.now) failed) → IsToDo words told (ActionReads (Some command.now.action) given.given.gave command.now.history.now) (file_names command.now.script.now files.now) (sources_in script.now.tasks (bytes_of texts.now)) (made_of accepted)) }
+    ensures whole { IfOk result (λ _. failed ≡ None) }
     ensures script { IfOk result (λ accepted. HasScript (made_of accepted)) }
     ensures untold { IfOk result (λ _. err.new ≡ err.old) }
 {
-    let Texts { texts, failed } = found;
-    match parse_texts(alloc, texts.as_slice(), failed) {
+    match parse_texts(alloc, texts, failed) {
         Ok(trees) => {
             let modules = Modules {
                 first: 1,
-                texts: texts.as_slice(),
+                texts,
                 trees: trees.as_slice(),
             };
             cell_of(alloc, command, script, files, &modules, err)

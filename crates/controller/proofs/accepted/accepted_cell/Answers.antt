@@ -18,8 +18,11 @@ returns-in-Err-clause-refused g c = λ held.
       told = c.refuse.ensures.told;
     })
 
-pub commanded_cell-requires : goal.commanded_cell-requires
-commanded_cell-requires g c = asked_moves (map g.W.AsSlice.items c.args.words.now) c.in-Ok.command.action c.in-Ok.ensures.action
+pub commanded_cell-requires-clause-moves : goal.commanded_cell-requires-clause-moves
+commanded_cell-requires-clause-moves g c = asked_moves (map g.W.AsSlice.items c.args.words.now) c.in-Ok.command.action c.in-Ok.ensures.action
+
+pub commanded_cell-requires-clause-cell : goal.commanded_cell-requires-clause-cell
+commanded_cell-requires-clause-cell g c = c.requires c.in-Ok.command.action c.in-Ok.ensures.action
 
 pub returns-in-Ok-commanded_cell-clause-asked : goal.returns-in-Ok-commanded_cell-clause-asked
 returns-in-Ok-commanded_cell-clause-asked g c =

@@ -1,7 +1,7 @@
 use Rattle.controller.proofs.accepted.commanded_cell.Goals as goal
 
 pub load_cell-requires-clause-moves : goal.load_cell-requires-clause-moves
-load_cell-requires-clause-moves g c = c.requires c.in-Load.moves c.in-Load.is
+load_cell-requires-clause-moves g c = c.requires.moves c.in-Load.moves c.in-Load.is
 
 pub returns-in-Ok-clause-asked : goal.returns-in-Ok-clause-asked
 returns-in-Ok-clause-asked g c = λ words is_for. c.in-Ok.ensures.asked words (g.S.Shelf.told c.args.shelf.now) _ is_for

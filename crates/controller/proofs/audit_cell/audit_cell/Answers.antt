@@ -1,6 +1,7 @@
 use Rattle.std.proofs.Common.{Err, ap, inl, map, subst, sym}
 use Rattle.typed_trees.specs.Views.{view_tree}
 use Rattle.controller.specs.Files.{IsDoneFault}
+use Rattle.controller.specs.Accepted.{audits}
 use Rattle.controller.specs.Loaded.{made_of}
 use Rattle.history_text.specs.HistoryText.{AreNamed}
 use Rattle.history_text.specs.Named.{view_names}
@@ -36,7 +37,7 @@ returns-in-Ok-clause-causes g c =
 
 pub returns-in-Err-Line-clause-answers : goal.returns-in-Err-Line-clause-answers
 returns-in-Err-Line-clause-answers g c = λ names.
-    history_refused c.args.text.now names (made_of c.args.accepted) (view_names c.names_of-named.result) c.in-Err-Line.line _ _ _
+    history_refused (audits names c.args.accepted.cell (map view_tree c.args.accepted.trees.items)) c.args.text.now names c.args.accepted.cell (view_names c.names_of-named.result) c.in-Err-Line.line _ _ _
     (names_seen c.names_of-named.result c.args.accepted.cell c.names_of-named.ensures.tasks c.names_of-named.ensures.signals c.names_of-named.ensures.pers)
     (c.in-Err-Line.ensures.line c.in-Err-Line.line (ap Err c.in-Err-Line.field-0-is)) (record {
       refused_is = c.refuse.ensures.refused;

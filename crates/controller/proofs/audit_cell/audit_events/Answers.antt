@@ -1,4 +1,4 @@
-use Rattle.std.proofs.Common.{ap, length, map, refl, sym, ◌∙◌}
+use Rattle.std.proofs.Common.{ap, length, map, sym, ◌∙◌}
 use Rattle.std.proofs.lemmas.List.{length-map}
 use Rattle.typed_trees.specs.Views.{view_tree}
 use Rattle.controller.specs.Loaded.{made_with}
@@ -27,5 +27,4 @@ audit_history-requires-clause-suit g c =
 pub returns-in-Ok : goal.returns-in-Ok
 returns-in-Ok g c =
     audit_answered c.args.accepted.cell c.in-Ok.audited.core.cell (map view_tree c.args.accepted.trees.items) (map view_tree c.as_slice.result.now) c.args.events.now c.args.fates.now c.in-Ok.audited.found _ _ _
-    c.in-Ok.ensures.cell (ap (map view_tree) c.as_slice.ensures.value) c.in-Ok.ensures.found
-    (λ found. c.report_audit.ensures (map view_tree c.args.accepted.trees.items) c.args.events.now c.args.fates.now refl found)
+    c.in-Ok.ensures.cell (ap (map view_tree) c.as_slice.ensures.value) c.in-Ok.ensures.found c.report_audit.ensures.nothing c.report_audit.ensures.printed

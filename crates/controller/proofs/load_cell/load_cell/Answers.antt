@@ -1,10 +1,11 @@
-use Rattle.std.proofs.Common.{◌≡◌, ℕ, List, ap, inl, map, sym, ◌∙◌}
-use Rattle.std.specs.Prelude.{Err}
+use Rattle.std.proofs.Common.{◌≡◌, ℕ, List, [], false, true, ap, inl, map, sym, ◌∙◌}
+use Rattle.std.specs.Prelude.{Err, IsTrue}
 use Rattle.std.proofs.lemmas.Result.{IfErr-weaker, IfOk-weaker}
 use Rattle.cell_load.specs.Texts.{module_files}
 use Rattle.cell_load.specs.Views.{view_modules}
 use Rattle.command_words.specs.declared.command.Action.{Action}
 use Rattle.command_words.specs.declared.command.Action.TheVariants as actions
+use Rattle.controller.specs.Accepted.{reads_history, sources_in}
 use Rattle.controller.specs.Files.{IsLoadFault}
 use Rattle.controller.specs.LoadFiles.{module_named}
 use Rattle.controller.specs.Loaded.{bytes_of, file_names, made_of, names_in_turn}
@@ -67,32 +68,39 @@ texts_cell-requires-clause-named g c = ap names_in_turn c.as_slice-files.ensures
 pub texts_cell-requires-clause-within : goal.texts_cell-requires-clause-within
 texts_cell-requires-clause-within g c =
     let names = names_in_turn c.as_slice-files.result.now in
-    texts_within c.args.moves c.in-Ok-own_texts.texts.items names c.requires.moves
-    (own (module_files c.args.moves) (view_modules c.as_slice-2.result.now) names (bytes_of c.in-Ok-own_texts.texts.items) (ap view_modules c.as_slice-2.ensures.value ∙ c.in-Ok.ensures.modules) c.in-Ok-own_texts.ensures)
+    texts_within c.args.moves c.as_slice-3.result.now names c.requires.moves
+    (own (module_files c.args.moves) (view_modules c.as_slice-2.result.now) names (bytes_of c.as_slice-3.result.now) (ap view_modules c.as_slice-2.ensures.value ∙ c.in-Ok.ensures.modules)
+    (ap bytes_of c.as_slice-3.ensures.value ∙ c.in-Ok-own_texts.ensures))
 
 pub returns-clause-refused : goal.returns-clause-refused
 returns-clause-refused g c =
     let names = names_in_turn c.as_slice-files.result.now in
-    let texts = own (module_files c.args.moves) (view_modules c.as_slice-2.result.now) names (bytes_of c.in-Ok-own_texts.texts.items) (ap view_modules c.as_slice-2.ensures.value ∙ c.in-Ok.ensures.modules) c.in-Ok-own_texts.ensures in
+    let texts = own (module_files c.args.moves) (view_modules c.as_slice-2.result.now) names (bytes_of c.as_slice-3.result.now) (ap view_modules c.as_slice-2.ensures.value ∙ c.in-Ok.ensures.modules)
+    (ap bytes_of c.as_slice-3.ensures.value ∙ c.in-Ok-own_texts.ensures) in
     IfErr-weaker c.texts_cell.result _ _ (λ report answers. λ words told held is_for. answers words told held
-    (load_texts_given words told c.args.command.now.action c.args.command.now.script.now c.args.command.now.history.now c.args.moves c.as_slice.result.now c.in-Ok-script_of.script names (bytes_of c.in-Ok-own_texts.texts.items) is_for
+    (load_texts_given words told c.args.command.now.action c.args.command.now.script.now c.args.command.now.history.now c.args.moves c.as_slice.result.now c.in-Ok-script_of.script names (bytes_of c.as_slice-3.result.now) is_for
     c.requires.action c.requires.moves (c.as_slice.ensures.value ∙ c.in-Ok.ensures.script) c.in-Ok-script_of.ensures.script
     (ap names_in_turn c.as_slice-files.ensures.value ∙ c.in-Ok-module_files.ensures.named) texts)) c.texts_cell.ensures.refused
 
 pub returns-clause-causes : goal.returns-clause-causes
 returns-clause-causes g c = IfErr-weaker c.texts_cell.result _ _ (λ report causes. λ old new. causes old new tt) c.texts_cell.ensures.causes
 
--- the action reads no history
-no_audit : (action : Action) (moves : ℕ) → action ≡ actions.Load moves → action ≡ actions.Audit → ⊥
-no_audit action moves is audit = let same : actions.Load moves ≡ actions.Audit = sym is ∙ audit in cc
+-- the action reads no history, and prints no places
+no_history : (action : Action) (moves : ℕ) → action ≡ actions.Load moves → IsTrue (reads_history action) → ⊥
+no_history action moves is reads = let e : false ≡ true = sym (ap reads_history is) ∙ reads in cc
+
+no_state : (action : Action) (moves : ℕ) → action ≡ actions.Load moves → action ≡ actions.State → ⊥
+no_state action moves is state = let same : actions.Load moves ≡ actions.State = sym is ∙ state in cc
 
 pub returns-clause-asked : goal.returns-clause-asked
 returns-clause-asked g c =
     let names = names_in_turn c.as_slice-files.result.now in
-    let texts = own (module_files c.args.moves) (view_modules c.as_slice-2.result.now) names (bytes_of c.in-Ok-own_texts.texts.items) (ap view_modules c.as_slice-2.ensures.value ∙ c.in-Ok.ensures.modules) c.in-Ok-own_texts.ensures in
+    let seen = bytes_of c.as_slice-3.result.now in
+    let texts = own (module_files c.args.moves) (view_modules c.as_slice-2.result.now) names seen (ap view_modules c.as_slice-2.ensures.value ∙ c.in-Ok.ensures.modules)
+    (ap bytes_of c.as_slice-3.ensures.value ∙ c.in-Ok-own_texts.ensures) in
     IfOk-weaker c.texts_cell.result _ _ (λ accepted is_to_do. λ words told text is_for.
-    let given = load_texts_given words told c.args.command.now.action c.args.command.now.script.now c.args.command.now.history.now c.args.moves c.as_slice.result.now c.in-Ok-script_of.script names
-    (bytes_of c.in-Ok-own_texts.texts.items) is_for c.requires.action c.requires.moves (c.as_slice.ensures.value ∙ c.in-Ok.ensures.script) c.in-Ok-script_of.ensures.script
-    (ap names_in_turn c.as_slice-files.ensures.value ∙ c.in-Ok-module_files.ensures.named) texts in
-    text_asked words told c.args.command.now.action given.given.gave c.args.command.now.history.now text (file_names c.args.command.now.script.now c.as_slice-files.result.now) (made_of accepted)
-    (λ audit. absurd (no_audit c.args.command.now.action c.args.moves c.requires.action audit)) (is_to_do words told given)) c.texts_cell.ensures.asked
+    let given = load_texts_given words told c.args.command.now.action c.args.command.now.script.now c.args.command.now.history.now c.args.moves c.as_slice.result.now c.in-Ok-script_of.script names seen is_for c.requires.action
+    c.requires.moves (c.as_slice.ensures.value ∙ c.in-Ok.ensures.script) c.in-Ok-script_of.ensures.script (ap names_in_turn c.as_slice-files.ensures.value ∙ c.in-Ok-module_files.ensures.named) texts in
+    text_asked words told c.args.command.now.action given.given.gave c.args.command.now.history.now text (file_names c.args.command.now.script.now c.as_slice-files.result.now) (sources_in c.in-Ok-script_of.script.tasks seen) []
+    (made_of accepted) (λ reads. absurd (no_history c.args.command.now.action c.args.moves c.requires.action reads))
+    (λ state. absurd (no_state c.args.command.now.action c.args.moves c.requires.action state)) (is_to_do words told given)) c.texts_cell.ensures.asked

@@ -1,0 +1,9 @@
+mod Dry
+mod Arrived
+mod TaskStates
+mod Elements
+mod TreeStates
+mod Replayed
+mod LastWrites
+mod Starting
+mod Examples

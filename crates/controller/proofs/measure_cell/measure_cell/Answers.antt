@@ -1,0 +1,51 @@
+use Rattle.std.proofs.Common.{ap, length, map, sym, ◌∙◌}
+use Rattle.std.proofs.lemmas.List.{length-map}
+use Rattle.typed_trees.specs.Views.{view_tree}
+use Rattle.controller.specs.Loaded.{made_with}
+use Rattle.controller.proofs.Compiling.{all_checked, seen_script}
+use Rattle.controller.proofs.Reports.{IsSound, measured_answered, measured_answers, measured_limits}
+use Rattle.controller.proofs.measure_cell.measure_cell.Goals as goal
+
+pub run_tasks-requires-clause-one_each : goal.run_tasks-requires-clause-one_each
+run_tasks-requires-clause-one_each g c = ap length c.as_slice.ensures.value ∙ sym (length-map c.args.accepted.trees.items view_tree) ∙ c.requires.one_each
+
+pub run_tasks-requires-clause-checked : goal.run_tasks-requires-clause-checked
+run_tasks-requires-clause-checked g c =
+    let has = seen_script c.args.accepted.cell c.args.accepted.trees.items c.as_slice.result.now c.as_slice.ensures.value c.requires in
+    all_checked (made_with c.args.accepted.cell c.as_slice.result.now) has
+
+pub run_tasks-requires-clause-programs : goal.run_tasks-requires-clause-programs
+run_tasks-requires-clause-programs g c =
+    let has = seen_script c.args.accepted.cell c.args.accepted.trees.items c.as_slice.result.now c.as_slice.ensures.value c.requires in
+    c.accepted_tasks_ask_as_their_code.ensures has.script (made_with c.args.accepted.cell c.as_slice.result.now) has.accepted
+
+pub run_tasks-requires-clause-suit : goal.run_tasks-requires-clause-suit
+run_tasks-requires-clause-suit g c =
+    let has = seen_script c.args.accepted.cell c.args.accepted.trees.items c.as_slice.result.now c.as_slice.ensures.value c.requires in
+    c.accepted_code_suits_its_task.ensures has.script (made_with c.args.accepted.cell c.as_slice.result.now) has.accepted
+
+pub report_measured-requires-clause-limits : goal.report_measured-requires-clause-limits
+report_measured-requires-clause-limits g c = measured_limits c.args.accepted.cell c.in-Ok.core.cell c.in-Ok.ensures.cell c.within_limits.ensures
+
+pub report_measured-requires-clause-answered : goal.report_measured-requires-clause-answered
+report_measured-requires-clause-answered g c =
+    let has = seen_script c.args.accepted.cell c.args.accepted.trees.items c.as_slice.result.now c.as_slice.ensures.value c.requires in
+    let sound : IsSound c.args.accepted.cell (map view_tree c.as_slice.result.now) c.in-Ok.core.history = record {
+      limits = c.within_limits.ensures;
+      well = c.accepted_tasks_ask_well.ensures has.script (made_with c.args.accepted.cell c.as_slice.result.now) has.accepted;
+      legal = c.in-Ok.ensures.legal;
+      whole = c.in-Ok.ensures.whole;
+    } in
+    measured_answers c.args.accepted.cell c.in-Ok.core.cell (map view_tree c.as_slice.result.now) c.in-Ok.core.history c.in-Ok.ensures.cell sound
+
+pub returns-in-Ok : goal.returns-in-Ok
+returns-in-Ok g c =
+    let has = seen_script c.args.accepted.cell c.args.accepted.trees.items c.as_slice.result.now c.as_slice.ensures.value c.requires in
+    measured_answered c.args.accepted.cell c.in-Ok.core.cell (map view_tree c.args.accepted.trees.items) (map view_tree c.as_slice.result.now) c.in-Ok.core.history _ _ _ c.in-Ok.ensures.cell
+    (ap (map view_tree) c.as_slice.ensures.value)
+    (record {
+      limits = c.within_limits.ensures;
+      well = c.accepted_tasks_ask_well.ensures has.script (made_with c.args.accepted.cell c.as_slice.result.now) has.accepted;
+      legal = c.in-Ok.ensures.legal;
+      whole = c.in-Ok.ensures.whole;
+    }) c.in-Ok.ensures.by_turns c.report_measured.ensures

@@ -1,0 +1,2 @@
+pub mod StateLines
+pub mod Seen
