@@ -48,12 +48,21 @@ A run:
     table           `table CELL`
     timeline        the events of a run as columns of numbers
     show            `show CELL`; page/ has the page's parts: page.html, page.css, and its scripts
+    why             `why CELL`; why_faults, why_zones, why_waits and why_steps have the reasons, rings the tasks that wait for one another
+    story           the tasks of a run along its events, and what changed last
+    blame           which parts of a condition keep it from being TRUE
+    interrupts      the interrupts of the tasks, and which of them wait
+    touching        where a way touches a zone
     coverage        which statements ran, and which lists inside them
     cover           `cover CELL..`
 The code of tasks:
     statements      the routines of a module and their statements
     code            the code of a task, walked along its statements
-    lengths         the names of the places where a task keeps its data
+    lengths         the places where a task keeps its data, their names and first values
+    constants       the values of constant expressions
+    machine         a task along its events; operations and arm_operations have those of its code, memory its data
+    values          values of RAPID, and what operators make of them
+    writers         the statements that write a persistent or a signal
     listing         `list --source CELL`
 The language server:
     lsp             the server; lsp_wire, lsp_text, lsp_files, lsp_checker, lsp_diagnostics, lsp_hover, lsp_definition, lsp_completion

@@ -31,7 +31,7 @@ OPTIONS = {
     b"--unproved": "has_unproved",
 }
 # The actions that options go with; the others go with all.
-GO_WITH = {"--all": ("check",), "--lcov": ("cover",), "--run": ("table", "show"), "--source": ("list",)}
+GO_WITH = {"--all": ("check",), "--lcov": ("cover",), "--run": ("table", "show", "why"), "--source": ("list",)}
 
 
 def taken_apart(given: Sequence[bytes]) -> Asked:
@@ -49,7 +49,7 @@ def misplaced(asked: Asked) -> Optional[str]:
     action = asked.words[0].decode(errors="replace") if asked.words else ""
     for option, actions in GO_WITH.items():
         if getattr(asked, OPTIONS[option.encode()]) and action not in actions:
-            return f"{option} goes with {' and '.join(actions)}"
+            return f"{option} goes with {', '.join([*actions[:-2], ' and '.join(actions[-2:])])}"
     return None
 
 

@@ -4,7 +4,7 @@ A statement's code begins with its Look; the lists inside it stand at places tha
 in specs/StmtLayouts.antt.
 """
 from dataclasses import dataclass
-from typing import List, NamedTuple, Optional, Sequence
+from typing import List, NamedTuple, Optional, Sequence, Tuple
 
 from .statements import FOR, IF, LABEL, ONE, TEST, WHILE, Routine, Source, Statement
 
@@ -38,11 +38,15 @@ class Misfit(Exception):
 
 
 class Walk:
-    """A walk along the code of a task. `owners` has the owner of each operation."""
+    """A walk along the code of a task. `owners` has the owner of each operation, and `spans` the places where its statement begins and
+    ends; `entries` are the places where the routines begin, and `handlers` those of their ERROR parts."""
 
     def __init__(self, ops: Sequence[Op], sources: Sequence[Source]) -> None:
         self.ops = ops
         self.owners: List[Optional[Owner]] = [None] * len(ops)
+        self.spans: List[Optional[Tuple[int, int]]] = [None] * len(ops)
+        self.entries: List[int] = []
+        self.handlers: List[Optional[int]] = []
         self.number, at = -1, 0
         for self.module, self.source in enumerate(sources):
             for routine in self.source.routines:
@@ -51,12 +55,15 @@ class Walk:
         self.exactly(at, len(ops))
 
     def routine(self, it: Routine, at: int) -> int:
+        self.entries.append(at)
+        self.handlers.append(None)
         at = self.list(it.statements, at)
         end = it.end if it.error is None else it.error
         self.expect(at, "NoBack" if it.kind == "FUNC" else "Back")
         self.own(at, at + 1, end, end + 1)
         if it.error is None:
             return at + 1
+        self.handlers[-1] = at + 1
         at = self.list(it.handler, at + 1)
         self.expect(at, "Again")
         self.own(at, at + 1, it.end, it.end + 1)
@@ -68,6 +75,8 @@ class Walk:
             if it.form != LABEL:
                 end = self.statement(it, at, limit)
                 self.own(at, end, it.start, it.head)
+                for k in range(at, end):
+                    self.spans[k] = self.spans[k] or (at, end)
                 at = end
         return at
 

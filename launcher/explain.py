@@ -78,6 +78,20 @@ def rows_for(word: str) -> List[Row]:
     return topics.get(word.lower(), [])
 
 
+def cause_of(word: str) -> str:
+    """The cause of a fault, an end or an error, by the documents."""
+    return first_cell(word, "Cause")
+
+
+def instead_of(word: str) -> str:
+    """What to write instead."""
+    return first_cell(word, "Write instead")
+
+
+def first_cell(word: str, head: str) -> str:
+    return next((plain(cell) for cell in (it.get(head) for it in rows_for(word)) if cell), "")
+
+
 Index = Dict[str, List[Row]]
 
 

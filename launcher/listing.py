@@ -79,7 +79,7 @@ class Names:
         self.cell = listing.names
         self.routines = [routine for source in sources for routine in source.routines]
         self.slots = lengths.slots(sources)
-        self.frames = [lengths.frame(it, sources, n) for n, source in enumerate(sources) for it in source.routines]
+        self.frames = lengths.frames(sources)
 
     def of(self, op: Op, owner: Owner) -> str:
         """The name of what an operation is about, or the empty text."""
@@ -87,7 +87,7 @@ class Names:
         if op.name in ("Call", "Connect"):
             return self.routines[op.number()].name
         if op.name in ("Slot", "Local", "Ref", "Turn", "Step"):
-            return named(self.slots if op.name == "Slot" else frame, op.number())
+            return (self.slots if op.name == "Slot" else frame)[op.number()].name
         table = {"Pers": "P", "GetSignal": "D", "PutSignal": "D", "Arrive": "G"}.get(op.name)
         if table:
             return named(self.cell[table], op.number())

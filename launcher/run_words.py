@@ -1,4 +1,4 @@
-"""The words about what the program prints of a cell: `table`, `show`, `cover` and `list --source`."""
+"""The words about what the program prints of a cell: `table`, `show`, `why`, `cover` and `list --source`."""
 import os
 from dataclasses import replace
 from pathlib import Path
@@ -7,7 +7,7 @@ from typing import Callable, Dict, Optional
 from . import build, hints
 from .asked import Asked, ended, found_program, helped, made_program
 from .program import Answer, Program, read
-from .say import BROKEN, NO_PROGRAM, REFUSED, put_err, put_out, say, wrong
+from .say import BROKEN, NO_PROGRAM, REFUSED, is_coloured, put_err, put_out, say, wrong
 
 # The statuses of a cell that ran: its tasks ended, some with a fault, or it stalled, or its steps were used up.
 RAN = (0, 1, 8, 9)
@@ -47,6 +47,15 @@ def show(asked: Asked) -> int:
     return of_cell(replace(asked, words=words), written)
 
 
+def why(asked: Asked) -> int:
+    if len(asked.words) != 2:
+        return wrong("why takes the script of a cell")
+    from .why import explained
+
+    is_shown = is_coloured(1) and not asked.is_plain
+    return of_cell(asked, lambda found, file: explained(found, asked.words[1], file, action_of(asked), is_shown))
+
+
 def cover(asked: Asked) -> int:
     if len(asked.words) < 2:
         return wrong("cover takes the script of a cell, or of several")
@@ -63,7 +72,7 @@ def cover(asked: Asked) -> int:
     return ended(asked, found, 0)
 
 
-OF_RUNS: Dict[bytes, Callable[[Asked], int]] = {b"table": table, b"show": show, b"cover": cover}
+OF_RUNS: Dict[bytes, Callable[[Asked], int]] = {b"table": table, b"show": show, b"why": why, b"cover": cover}
 
 
 def action_of(asked: Asked) -> bytes:

@@ -73,9 +73,9 @@ def broken(error: Exception) -> int:
     return BROKEN
 
 
-def is_coloured() -> bool:
-    """Whether standard error is a terminal that takes colours, and nobody asked for none."""
-    return not os.environ.get("NO_COLOR") and os.environ.get("TERM", "dumb") != "dumb" and os.isatty(2)
+def is_coloured(stream: int = 2) -> bool:
+    """Whether standard error, or another stream, is a terminal that takes colours, and nobody asked for none."""
+    return not os.environ.get("NO_COLOR") and os.environ.get("TERM", "dumb") != "dumb" and os.isatty(stream)
 
 
 def open_closed_streams() -> None:

@@ -15,6 +15,8 @@ ARRAY = re.compile(rb"\[((?:[^\]#]|#[^\n]*)*)\]")
 COMMENT = re.compile(rb"#[^\n]*")
 # The axes of a robot; an arm may have external ones besides.
 AXES = 6
+# How many events may be counted if the script does not say.
+STEPS = 100_000
 Axes = Tuple[int, ...]
 Row = Dict[str, Key]
 
@@ -62,10 +64,14 @@ class Zone:
 
 @dataclass(frozen=True)
 class Input:
-    """An input: the number of its signal, and the signal's new value."""
+    """An input: the number of its signal, and the signal's new value; and its gate: a signal with the value that it must have, a task
+    with the setpoints that it must have been given, and the events that must have been counted."""
 
     signal: int
     value: int
+    when: Optional[Tuple[int, int]] = None
+    given: Optional[Tuple[int, int]] = None
+    after: int = 0
 
 
 @dataclass(frozen=True)
@@ -74,6 +80,7 @@ class Script:
     signals: List[Signal]
     zones: List[Zone]
     inputs: List[Input]
+    steps: int
 
     @property
     def axes(self) -> int:
@@ -100,19 +107,28 @@ class Reader:
     def __init__(self, text: bytes) -> None:
         self.text = text
         self.tables: Dict[str, Dict[int, Row]] = {}
+        # The keys outside the tables.
+        self.top: Row = {}
         for key in toml_places.keys_of(text):
             if len(key.path) >= 2 and key.path[1].isdigit():
                 row = self.tables.setdefault(key.path[0], {}).setdefault(int(key.path[1]), {})
                 if len(key.path) == 3:
                     row[key.path[2]] = key
+            elif len(key.path) == 1:
+                self.top[key.path[0]] = key
 
     def script(self) -> Script:
         tasks = [Task(self.word(it, "name"), self.numbers(it, "arm") if "arm" in it else None) for it in self.rows("task")]
         signals = [Signal(self.word(it, "name"), self.word(it, "kind"), self.number(it, "start", 0)) for it in self.rows("signal")]
-        script = Script(tasks, signals, [], [])
+        script = Script(tasks, signals, [], [], self.number(self.top, "steps", STEPS))
         script.zones.extend(self.zone(it, script) for it in self.rows("zone"))
-        script.inputs.extend(Input(script.signal(self.word(it, "signal")), self.number(it, "value")) for it in self.rows("input"))
+        script.inputs.extend(self.input(it, script) for it in self.rows("input"))
         return script
+
+    def input(self, row: Row, script: Script) -> Input:
+        when = (script.signal(self.word(row, "when")), self.number(row, "is")) if "when" in row else None
+        given = (script.task(self.word(row, "task")), self.number(row, "setpoints")) if "task" in row else None
+        return Input(script.signal(self.word(row, "signal")), self.number(row, "value"), when, given, self.number(row, "after", 0))
 
     def zone(self, row: Row, script: Script) -> Zone:
         bounds = zip(self.numbers(row, "low"), self.numbers(row, "high"))

@@ -13,10 +13,9 @@ from .listing import Listing
 from .places import PAGE
 from .program import Answer, Program
 from .say import NOT_PRINTED, REFUSED, say
-from .tables import plain
 from .texts import read_cell
 from .timeline import KINDS, Column, Timeline, bytes_of
-from .trace import NO_TRACE, Place, Reader
+from .trace import Place, Reader, read_events
 
 SCRIPTS = ("run.js", "view.js", "rows.js", "charts.js", "picture.js", "texts.js", "page.js")
 # The types of columns; one of bytes has none.
@@ -61,9 +60,7 @@ def write_page(found: Program, name: bytes, file: Path, action: bytes, page: Pat
     if listed.status:
         return listed
     shown = Shown(file, Listing(lines))
-    answer = program.read(found, [b"trace", name], shown.take) if action == b"round" else None
-    if answer is None or answer.err == NO_TRACE:
-        answer = program.read(found, [action, name, b"--history"], shown.take)
+    answer = read_events(found, name, action, shown.take)
     if len(shown.ends) < len(shown.script.tasks):
         return answer
     try:
@@ -114,7 +111,7 @@ def facts_of(shown: Shown, action: str, columns: List[Tuple[str, Column]]) -> Di
         "kinds": KINDS,
         "hasPlaces": shown.has_places,
         "tasks": [
-            {"name": it.name, "start": it.arm or [], "fate": fate, "cause": cause_of(fate)}
+            {"name": it.name, "start": it.arm or [], "fate": fate, "cause": explain.cause_of(word_of(fate))}
             for it, fate in zip(shown.script.tasks, shown.ends)
         ],
         "signals": [{"name": it.name, "kind": it.kind, "start": it.start} for it in shown.script.signals],
@@ -130,11 +127,10 @@ def facts_of(shown: Shown, action: str, columns: List[Tuple[str, Column]]) -> Di
     }
 
 
-def cause_of(fate: str) -> str:
-    """Why a task ends so, by the documents."""
+def word_of(fate: str) -> str:
+    """The word by which the documents explain how a task ended."""
     first, _, fault = fate.partition(" ")
-    rows = explain.rows_for(fault.split()[0] if first == "Fault" else first)
-    return next((plain(cause) for cause in (it.get("Cause") for it in rows) if cause), "")
+    return fault.split()[0] if first == "Fault" else first
 
 
 def stored_name(path: str, names: List[str]) -> str:

@@ -49,10 +49,13 @@ class Statement:
 
 @dataclass
 class Datum:
-    """A declared datum: CONST, VAR or PERS, its name, the tokens of its length if it is an array, and those of its value."""
+    """A declared datum: CONST, VAR or PERS, the name of its type, its own name, whether only its module sees it, the tokens of its
+    length if it is an array, and those of its value."""
 
     kind: str
+    type: str
     name: str
+    is_local: bool
     length: Sequence[Token]
     value: Sequence[Token]
 
@@ -130,7 +133,7 @@ class Reader:
             if self.word() in ROUTINES:
                 found.routines.append(self.routine(start))
             else:
-                found.data.append(self.datum())
+                found.data.append(self.datum(self.tokens[start].text == "LOCAL"))
         return found
 
     def word(self) -> str:
@@ -154,13 +157,13 @@ class Reader:
         self.k += 1
         return self.k
 
-    def datum(self) -> Datum:
-        kind, name = self.word(), self.tokens[self.k + 2].text
+    def datum(self, is_local: bool = False) -> Datum:
+        kind, sort, name = self.word(), self.tokens[self.k + 1].text, self.tokens[self.k + 2].text
         length = self.k + 3
         value = self.after(length, "{", "}")
         self.k = value
         past = self.past(";")
-        return Datum(kind, name, self.tokens[length + 1 : max(value - 1, length + 1)], self.tokens[value + 1 : past - 1])
+        return Datum(kind, sort, name, is_local, self.tokens[length + 1 : max(value - 1, length + 1)], self.tokens[value + 1 : past - 1])
 
     def routine(self, start: int) -> Routine:
         kind = self.word()

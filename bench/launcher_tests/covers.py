@@ -1,27 +1,16 @@
-"""`cover`, and the places on the page of `show`, on the cells of traced/, whose traces were made by hand: each event of the history
-with the place of the last look, as the text of the modules has it."""
+"""`trace`, `cover`, and the places on the page of `show`, on the cells of traced/, whose traces were made by hand: each event of the
+history with the place of the last look, as the text of the modules has it."""
 import os
 import re
+import subprocess
 import tempfile
 from pathlib import Path
 
-from .common import EXAMPLES, ask, compare, program
+from .common import EXAMPLES, ask, compare, program, text_of
 from .pages import browsed, has_node, page_of
 from .spreadsheet import history_of
 
 TRACED = Path(__file__).resolve().parent / "traced"
-# A program that takes its traces from the files beside the cells, and leaves all else to the real one.
-PRETENDED = """#!/usr/bin/env python3
-import os, sys
-from pathlib import Path
-if sys.argv[1] == "trace" and not Path(sys.argv[2]).with_name("trace.txt").exists():
-    sys.argv[1] = "check"
-if sys.argv[1] == "trace":
-    head, _, lines = Path(sys.argv[2]).with_name("trace.txt").read_text().partition("\\n")
-    sys.stdout.write(lines)
-    sys.exit(int(head.split()[1]))
-os.execv({program!r}, [{program!r}, *sys.argv[1:]])
-"""
 OLD = "#!/bin/sh\necho 'rapid_cell: words 0' >&2\nexit 2\n"
 # How often each line ran, by hand.
 COUNTS = {
@@ -67,12 +56,12 @@ end_of_record
 """
 
 
-def pretended(folder, text=PRETENDED):
-    """A program that traces."""
+def old_program(folder):
+    """A program without the action trace."""
     from launcher.program import Program
 
     file = Path(folder, "program")
-    file.write_text(text.replace("{program!r}", repr(os.fspath(program().file))))
+    file.write_text(OLD)
     file.chmod(0o700)
     return Program(file, False)
 
@@ -82,7 +71,7 @@ def traced(cell):
 
 
 def try_traces():
-    """The traces are those of the runs, but for the places."""
+    """The program prints the traces that were made by hand. Without the places they are the lines of the runs' histories."""
     from launcher.script import parse
     from launcher.texts import read_cell
     from launcher.trace import Reader
@@ -93,7 +82,9 @@ def try_traces():
         compare(f"tasks of {cell}", len(parse(script.read_bytes()).tasks) > 0, True)
         read = [reader.read(it) for it in traced(cell) if not it.startswith("E ")]
         found = [f"H {it.actor} {it.request} > {it.answer}" for it, _ in read]
-        compare(f"trace of {cell}", found, [it for it in history_of(script) if it.startswith("H ")])
+        compare(f"history of {cell}", found, [it for it in history_of(script) if it.startswith("H ")])
+        ran = subprocess.run([program().file, "trace", script], stdin=subprocess.DEVNULL, stdout=subprocess.PIPE)
+        compare(f"trace of {cell}", text_of(ran.stdout).splitlines(), traced(cell))
         starts = [(it.actor, place) for it, place in read if it.kind == "Look"]
         compare(f"places of {cell}", None in [place for _, place in starts], False)
 
@@ -103,7 +94,7 @@ def try_covers():
     from launcher.cover import Cover
 
     with tempfile.TemporaryDirectory() as folder:
-        found, covered, twice = pretended(folder), Cover(), Cover()
+        found, covered, twice = program(), Cover(), Cover()
         for cell in ("lists", "handler", "trap"):
             script = TRACED / cell / "cell.toml"
             status = covered.run(found, os.fsencode(script), script).status
@@ -122,7 +113,7 @@ def try_covers():
         for name, status in (("faults/no_name", 4), ("faults/syntax", 4), ("none", 5)):
             script = EXAMPLES / name / "cell.toml"
             compare(f"cover of {name}", covered.run(found, os.fsencode(script), script).status, status)
-        old = pretended(folder, OLD)
+        old = old_program(folder)
         compare("cover by a program without trace", Cover().run(old, b"a", TRACED / "trap/cell.toml").status, 2)
 
 
@@ -132,7 +123,7 @@ def try_traced_pages():
         return
     with tempfile.TemporaryDirectory() as folder:
         for cell in ("lists", "handler", "trap"):
-            page, _ = page_of(folder, TRACED / cell / "cell.toml", started=pretended(folder).file)
+            page, _ = page_of(folder, TRACED / cell / "cell.toml", started=program().file)
             each = 'Array.from({ length: page.run.count }, (_, k) => (press(k ? "ArrowRight" : "Home"), details()))'
             shown = 'page.run.cell.modules.map((it, k) => (page.texts.show(k, 1), [it.name, document.getElementById("lines").children.map((line) => line.children[1].textContent)]))'
             details, lines = browsed(page, each, shown)
@@ -143,7 +134,7 @@ def try_traced_pages():
             for name, counts in lines:
                 own = {k + 1: int(it) if it != "never" else 0 for k, it in enumerate(counts) if it}
                 compare(f"page of {cell}, counts of {name}", own, COUNTS[name])
-        page, _ = page_of(folder, TRACED / "trap/cell.toml", started=pretended(folder).file)
+        page, _ = page_of(folder, TRACED / "trap/cell.toml", started=program().file)
         clicks = browsed(page, *['(page.texts.pick(9), page.picture.chosen)'] * 3, "page.picture.rows[1].errors.length", "page.texts.row")
         # Line 9 looks at events 4 and 12; event 8 is the TRAP's.
         compare("clicks on a line", clicks, [4, 12, 4, 0, 9])

@@ -5,6 +5,7 @@ from pathlib import Path
 from .common import EXAMPLES, ask, compare
 
 FEEDER = EXAMPLES / "feeder/cell.toml"
+PRESS = EXAMPLES / "press_cell"
 # How many events, what `total`, `place`, `waiting` and `part_seen` hold, the place, and what is asked there.
 AFTER = (
     (0, 0, 1, 0, 0, "42:5", "Look"),
@@ -81,6 +82,28 @@ def try_states():
         history.write_text(lines[0] + "H ROB1 Look\n")
         compare("no history", ask("--plain", "state", FEEDER, history)[:2], (11, ""))
         compare("no file", ask("--plain", "state", FEEDER, Path(folder, "absent"))[:2], (5, ""))
+
+
+def try_press_cell():
+    """The press cell after every tenth of its events: each task stands where the trace, worked out by hand, has its next event."""
+    traced = [line.split(" ", 4)[1:] for line in (PRESS / "trace.txt").read_text().splitlines() if line.startswith("M ")]
+    with tempfile.TemporaryDirectory() as folder:
+        history = Path(folder, "history.txt")
+        for count in range(0, len(traced) + 1, 10):
+            history.write_text("".join(f"H {task} {said}\n" for task, _file, _spot, said in traced[:count]))
+            status, out, _ = ask("--plain", "state", PRESS / "cell.toml", history)
+            stands = [line for line in out.splitlines() if line.startswith("N ")]
+            wanted = [next_line(task, traced[:count], traced[count:]) for task in ("ROB1", "ROB2", "SUP")]
+            compare(f"the press cell after {count} events", (status, stands), (0, wanted))
+
+
+def next_line(task, before, after):
+    """Where a task is by these parts of a trace: at its next event, or behind its last one."""
+    for actor, file, spot, said in after:
+        if actor == task:
+            return f"N {task} {file} {spot} {said.rpartition(' > ')[0]}"
+    file, spot = [row[1:3] for row in before if row[0] == task][-1]
+    return f"N {task} {file} {spot} ended"
 
 
 def try_data():

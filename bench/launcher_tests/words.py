@@ -34,7 +34,7 @@ def try_places():
     """The launcher's rule of refused words against the program's."""
     from launcher.words import refused_place
 
-    for line in ("", "x", "check", "list", "run", "round a b", "run a b", "check a b", "--history --history", "check -x", "-", "check \xff", "\xff a", "check \xff b", "audit", "audit a", "audit a b c", "audit a \xff", "state a", "state a b c", "clearance", "clearance a b", "migrate", "migrate a b"):
+    for line in ("", "x", "check", "list", "run", "round a b", "run a b", "check a b", "--history --history", "check -x", "-", "check \xff", "\xff a", "check \xff b", "audit", "audit a", "audit a b c", "audit a \xff", "state a", "state a b c", "clearance", "clearance a b", "trace", "trace a b", "migrate", "migrate a b"):
         words = line.encode("latin-1").split()
         ran = subprocess.run([os.fsencode(program().file), *words], stdout=subprocess.PIPE, stderr=subprocess.PIPE)
         place = refused_place(words)
@@ -71,7 +71,7 @@ def try_help():
     for words in (("-h",), ("help",), ("check", "--help"), ("build", "-h")):
         compare(f"help by {words}", ask(*words), page)
     compare("help has no line too long", max(map(len, page[1].splitlines())) <= 130, True)
-    for name in ("check", "round", "run", "list", "load", "audit", "state", "clearance", "migrate", "table", "show", "cover", "explain", "build", "watch", "lsp", "completion", "--history", "--all", "--run", "--source", "--lcov", "-o", "--plain", "--proved"):
+    for name in ("check", "round", "run", "list", "load", "audit", "state", "clearance", "trace", "migrate", "table", "show", "why", "cover", "explain", "build", "watch", "lsp", "completion", "--history", "--all", "--run", "--source", "--lcov", "-o", "--plain", "--proved"):
         compare(f"help has {name}", name in page[1], True)
     status, out, err = ask()
     compare("no word", (status, out, err.startswith("rapid_cell: words 0\n"), "./rapid_cell check CELL" in err), (2, "", True, True))

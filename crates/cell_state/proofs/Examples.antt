@@ -11,7 +11,7 @@ use Rattle.rapid_model.specs.declared.fate.Fate.TheVariants as fates
 use Rattle.rapid_model.specs.declared.instruction.Instruction.TheVariants as instructions
 use Rattle.rapid_model.specs.declared.operator.Operator.TheVariants as operators
 use Rattle.rapid_model.specs.declared.request.Request.{Request}
-use Rattle.rapid_model.specs.declared.request.Request.TheVariants.{End, Look, ReadP, WriteP}
+use Rattle.rapid_model.specs.declared.request.Request.TheVariants.{End, Input, Look, ReadP, WriteP}
 use Rattle.rapid_model.specs.declared.sort.Sort.TheVariants as sorts
 use Rattle.rapid_model.specs.declared.value.Value.{Value}
 use Rattle.rapid_model.specs.declared.value.Value.TheVariants.{Num}
@@ -27,6 +27,7 @@ use Rattle.rapid_meaning.proofs.Trees.{between, module_num, num, num_row, number
 use Rattle.stack_code.proofs.CodeAsked.{compiled_stands, tree_stands}
 use Rattle.cell_meaning.proofs.MoreEvents.{event}
 use Rattle.cell_state.specs.States.{CellStateData, IsStateAfter, TaskStateData, reached, state_in}
+use Rattle.cell_state.specs.Traces.{event_place}
 
 abbrev k : TypedPlace
 k = whole_of (roots.Pers 0) sorts.Num
@@ -131,3 +132,19 @@ second_state = record { one_each = refl; tasks = each; pers = refl }
     each : (task : ℕ) (tree : TypedTree) → slice_get (counting ∷ []) task ≡ Some tree → slice_get (counts writes minus_2_5).tasks task ≡ reached tree (answers_of task two_events)
     each zero tree there = let same : counting ≡ tree = cc in subst (λ (t : TypedTree). slice_get (counts writes minus_2_5).tasks 0 ≡ reached t two_answers) same reads
     each (suc task) tree there = cc
+
+-- a Look is asked at its own place, and what comes after it at the same; without a Look there is none
+look_place : event_place (counting ∷ []) [] (event 0 Look go) ≡ at 38
+unfolding state_after deep performed after sort_of_pers
+look_place = refl
+
+read_place : event_place (counting ∷ []) (event 0 Look go ∷ []) (event 0 (ReadP 0 whole_path) (Val minus_2_5)) ≡ at 38
+unfolding state_after deep performed after sort_of_pers
+read_place = refl
+
+no_place : event_place (task_of [] (proc [] ∷ []) ∷ []) [] (event 0 (End fates.Done) Ok) ≡ None
+unfolding state_after deep performed after
+no_place = refl
+
+script_place : event_place (counting ∷ []) two_events (event 1 (Input 0) Ok) ≡ None
+script_place = refl

@@ -3,7 +3,9 @@ mod Arrived
 mod TaskStates
 mod Elements
 mod TreeStates
-mod Replayed
+mod TreePlaces
+pub mod EventPlaces
+pub mod Replayed
 mod LastWrites
 mod Starting
 mod Examples

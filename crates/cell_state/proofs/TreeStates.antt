@@ -27,7 +27,7 @@ use Rattle.cell_state.specs.Codes.{IsReachedBy, IsStateByCodes}
 use Rattle.cell_state.specs.States.{CellStateData, IsStateAfter, TaskStateData, reached, state_in}
 
 -- what the code of a tree is in, the tree is in
-tree_reached : (tree : TypedTree) (answers : List Answer) (k : ℕ) (here : TaskStateData) → StandsBy tree answers k → IsReachedBy (compiled tree) answers here → reached tree answers ≡ Some here
+pub tree_reached : (tree : TypedTree) (answers : List Answer) (k : ℕ) (here : TaskStateData) → StandsBy tree answers k → IsReachedBy (compiled tree) answers here → reached tree answers ≡ Some here
 tree_reached tree answers k here stands by =
     let moved : by.operations + k ≡ k + by.operations = omega arith in
     ap (λ (o : Outcome ⊤). state_in o) (sym (stands by.operations)) ∙ ap (λ (n : ℕ). state_in (code_after (compiled tree) n answers)) (sym moved) ∙ by.stands k

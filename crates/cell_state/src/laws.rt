@@ -1,5 +1,6 @@
 ghost use Rattle.std.specs.Prelude.{◌≡◌, ◌++◌, ◌∷◌, ℕ, false, All, List, [], Option, Some, flat_map, length, map, option_map, slice_get, slice_index_or};
 ghost use Rattle.rapid_model.specs.CellData.{CellData, IsCell};
+ghost use Rattle.rapid_model.specs.declared.at.At.{At};
 ghost use Rattle.rapid_model.specs.declared.event.Event.{Event};
 ghost use Rattle.rapid_model.specs.declared.path.Path.{Path};
 ghost use Rattle.rapid_model.specs.declared.pers_cell.PersCell.{PersCell};
@@ -18,6 +19,7 @@ ghost use Rattle.cell_crew.specs.Courses.{SuitTasks};
 ghost use Rattle.cell_crew.specs.Crew.{AskAsPrograms};
 ghost use Rattle.cell_state.specs.Codes.{IsStateByCodes};
 ghost use Rattle.cell_state.specs.States.{CellStateData, IsStateAfter, TaskStateData};
+ghost use Rattle.cell_state.specs.Traces.{IsAskedAt, event_place};
 ghost use Rattle.cell_state.specs.Writes.{is_written};
 
 use cell_meaning::Askers;
@@ -27,6 +29,13 @@ use code_laws::compiled_code_is_live;
 /// state that the code gives is the one that the trees give.
 pub fn code_states_are_tree_states<A: Askers>()
     ensures { (cell : CellData) (trees : List TypedTree) (history : List Event) (state : CellStateData) → length trees ≡ length cell.tasks → All IsChecked trees → AskAsPrograms CodeFits CodeAsks A.asks (map compiled trees) → SuitTasks CodeFits CodeAsks cell (map compiled trees) → IsLegal (with_inputs A.asks cell) cell history → IsStateByCodes cell (map compiled trees) history state → IsStateAfter cell trees history state }
+{
+    compiled_code_is_live();
+}
+
+/// A law: after a legal history of such tasks, the place at which the code asks an event is that of the tree.
+pub fn code_places_are_tree_places<A: Askers>()
+    ensures { (cell : CellData) (trees : List TypedTree) (before : List Event) (e : Event) (place : Option At) → length trees ≡ length cell.tasks → All IsChecked trees → AskAsPrograms CodeFits CodeAsks A.asks (map compiled trees) → SuitTasks CodeFits CodeAsks cell (map compiled trees) → IsLegal (with_inputs A.asks cell) cell before → IsAskedAt (map compiled trees) before e place → place ≡ event_place trees before e }
 {
     compiled_code_is_live();
 }

@@ -26,7 +26,14 @@ impl Case {
 
     /// A segment and a zone of the first axes, by their angles at both ends and their bounds. The other angles are 0.
     pub(crate) fn of_axes(inside: bool, p: &[i64], q: &[i64], zone: &[(i64, i64)]) -> Option<Case> {
-        Case::new(joints(p)?, joints(q)?, shape(inside, zone)?)
+        let mut bounds = [None; 12];
+        for (place, (low, high)) in bounds.iter_mut().zip(zone) {
+            *place = Some(Bound {
+                low: Num::new(*low)?,
+                high: Num::new(*high)?,
+            });
+        }
+        Case::new(joints(p)?, joints(q)?, Shape { inside, bounds })
     }
 
     pub(crate) fn gap(&self) -> Gap {
@@ -34,20 +41,8 @@ impl Case {
     }
 }
 
-/// A zone of the first axes, by their bounds.
-pub(crate) fn shape(inside: bool, zone: &[(i64, i64)]) -> Option<Shape> {
-    let mut bounds = [None; 12];
-    for (place, (low, high)) in bounds.iter_mut().zip(zone) {
-        *place = Some(Bound {
-            low: Num::new(*low)?,
-            high: Num::new(*high)?,
-        });
-    }
-    Some(Shape { inside, bounds })
-}
-
 /// The first axes at these angles, the others at 0.
-pub(crate) fn joints(angles: &[i64]) -> Option<Joints> {
+fn joints(angles: &[i64]) -> Option<Joints> {
     let mut axis = [Num::new(0)?; 12];
     for (place, angle) in axis.iter_mut().zip(angles) {
         *place = Num::new(*angle)?;

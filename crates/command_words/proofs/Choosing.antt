@@ -40,10 +40,11 @@ run_verb verbs.Audit full every second is = cc
 run_verb verbs.State full every second is = cc
 run_verb verbs.Migrate full every second is = cc
 run_verb verbs.Clearance full every second is = cc
+run_verb verbs.Trace full every second is = cc
 
--- the word, by which of the nine it is
-abbrev by_tests : Bool → Bool → Bool → Bool → Bool → Bool → Bool → Bool → Bool → Option Verb
-by_tests check round run list load audit state migrate clearance =
+-- the word, by which of the ten it is
+abbrev by_tests : Bool → Bool → Bool → Bool → Bool → Bool → Bool → Bool → Bool → Bool → Option Verb
+by_tests check round run list load audit state migrate clearance trace =
     if check then Some verbs.Check
     else if round then Some verbs.Round
     else if run then Some verbs.Run
@@ -53,25 +54,27 @@ by_tests check round run list load audit state migrate clearance =
     else if state then Some verbs.State
     else if migrate then Some verbs.Migrate
     else if clearance then Some verbs.Clearance
+    else if trace then Some verbs.Trace
     else None
 
-other : (check round list load audit state migrate clearance : Bool) (verb : Verb) → by_tests check round false list load audit state migrate clearance ≡ Some verb → verb ≢ verbs.Run
-other true round list load audit state migrate clearance verb is = λ run. let e : Some verbs.Check ≡ Some verbs.Run = is ∙ ap Some run in cc
-other false true list load audit state migrate clearance verb is = λ run. let e : Some verbs.Round ≡ Some verbs.Run = is ∙ ap Some run in cc
-other false false true load audit state migrate clearance verb is = λ run. let e : Some verbs.List ≡ Some verbs.Run = is ∙ ap Some run in cc
-other false false false true audit state migrate clearance verb is = λ run. let e : Some verbs.Load ≡ Some verbs.Run = is ∙ ap Some run in cc
-other false false false false true state migrate clearance verb is = λ run. let e : Some verbs.Audit ≡ Some verbs.Run = is ∙ ap Some run in cc
-other false false false false false true migrate clearance verb is = λ run. let e : Some verbs.State ≡ Some verbs.Run = is ∙ ap Some run in cc
-other false false false false false false true clearance verb is = λ run. let e : Some verbs.Migrate ≡ Some verbs.Run = is ∙ ap Some run in cc
-other false false false false false false false true verb is = λ run. let e : Some verbs.Clearance ≡ Some verbs.Run = is ∙ ap Some run in cc
-other false false false false false false false false verb is = λ run. let e : None ≡ Some verbs.Run = is ∙ ap Some run in cc
+other : (check round list load audit state migrate clearance trace : Bool) (verb : Verb) → by_tests check round false list load audit state migrate clearance trace ≡ Some verb → verb ≢ verbs.Run
+other true round list load audit state migrate clearance trace verb is = λ run. let e : Some verbs.Check ≡ Some verbs.Run = is ∙ ap Some run in cc
+other false true list load audit state migrate clearance trace verb is = λ run. let e : Some verbs.Round ≡ Some verbs.Run = is ∙ ap Some run in cc
+other false false true load audit state migrate clearance trace verb is = λ run. let e : Some verbs.List ≡ Some verbs.Run = is ∙ ap Some run in cc
+other false false false true audit state migrate clearance trace verb is = λ run. let e : Some verbs.Load ≡ Some verbs.Run = is ∙ ap Some run in cc
+other false false false false true state migrate clearance trace verb is = λ run. let e : Some verbs.Audit ≡ Some verbs.Run = is ∙ ap Some run in cc
+other false false false false false true migrate clearance trace verb is = λ run. let e : Some verbs.State ≡ Some verbs.Run = is ∙ ap Some run in cc
+other false false false false false false true clearance trace verb is = λ run. let e : Some verbs.Migrate ≡ Some verbs.Run = is ∙ ap Some run in cc
+other false false false false false false false true trace verb is = λ run. let e : Some verbs.Clearance ≡ Some verbs.Run = is ∙ ap Some run in cc
+other false false false false false false false false true verb is = λ run. let e : Some verbs.Trace ≡ Some verbs.Run = is ∙ ap Some run in cc
+other false false false false false false false false false verb is = λ run. let e : None ≡ Some verbs.Run = is ∙ ap Some run in cc
 
 -- the first of these words is not `run`
 no_first : (words : List (List ℕ)) (verb : Verb) → first_verb words ≡ Some verb → begins_with_run words ≡ false → verb ≢ verbs.Run
 no_first [] verb is other_word = λ run. let e : None ≡ Some verb = is in cc
 no_first (word ∷ rest) verb is other_word =
-    other (bytes_eq word (codes "check")) (bytes_eq word (codes "round")) (bytes_eq word (codes "list")) (bytes_eq word (codes "load")) (bytes_eq word (codes "audit")) (bytes_eq word (codes "state")) (bytes_eq word (codes "migrate")) (bytes_eq word (codes "clearance")) verb
-    (subst (λ (b : Bool). by_tests (bytes_eq word (codes "check")) (bytes_eq word (codes "round")) b (bytes_eq word (codes "list")) (bytes_eq word (codes "load")) (bytes_eq word (codes "audit")) (bytes_eq word (codes "state")) (bytes_eq word (codes "migrate")) (bytes_eq word (codes "clearance")) ≡ Some verb) other_word is)
+    other (bytes_eq word (codes "check")) (bytes_eq word (codes "round")) (bytes_eq word (codes "list")) (bytes_eq word (codes "load")) (bytes_eq word (codes "audit")) (bytes_eq word (codes "state")) (bytes_eq word (codes "migrate")) (bytes_eq word (codes "clearance")) (bytes_eq word (codes "trace")) verb
+    (subst (λ (b : Bool). by_tests (bytes_eq word (codes "check")) (bytes_eq word (codes "round")) b (bytes_eq word (codes "list")) (bytes_eq word (codes "load")) (bytes_eq word (codes "audit")) (bytes_eq word (codes "state")) (bytes_eq word (codes "migrate")) (bytes_eq word (codes "clearance")) (bytes_eq word (codes "trace")) ≡ Some verb) other_word is)
 
 pub not_run : (words : List (List ℕ)) (action : Action) → asked words ≡ Some action → is_run words ≡ false → (full : Bool) → action ≢ actions.Run full
 not_run words action is other_word = λ full same.
@@ -107,23 +110,25 @@ migrate_verb verbs.Audit full second is = cc
 migrate_verb verbs.State full second is = cc
 migrate_verb verbs.Migrate full second is = refl
 migrate_verb verbs.Clearance full second is = cc
+migrate_verb verbs.Trace full second is = cc
 
-no_migrate : (check round run list load audit state clearance : Bool) (verb : Verb) → by_tests check round run list load audit state false clearance ≡ Some verb → verb ≢ verbs.Migrate
-no_migrate true round run list load audit state clearance verb is = λ same. let e : Some verbs.Check ≡ Some verbs.Migrate = is ∙ ap Some same in cc
-no_migrate false true run list load audit state clearance verb is = λ same. let e : Some verbs.Round ≡ Some verbs.Migrate = is ∙ ap Some same in cc
-no_migrate false false true list load audit state clearance verb is = λ same. let e : Some verbs.Run ≡ Some verbs.Migrate = is ∙ ap Some same in cc
-no_migrate false false false true load audit state clearance verb is = λ same. let e : Some verbs.List ≡ Some verbs.Migrate = is ∙ ap Some same in cc
-no_migrate false false false false true audit state clearance verb is = λ same. let e : Some verbs.Load ≡ Some verbs.Migrate = is ∙ ap Some same in cc
-no_migrate false false false false false true state clearance verb is = λ same. let e : Some verbs.Audit ≡ Some verbs.Migrate = is ∙ ap Some same in cc
-no_migrate false false false false false false true clearance verb is = λ same. let e : Some verbs.State ≡ Some verbs.Migrate = is ∙ ap Some same in cc
-no_migrate false false false false false false false true verb is = λ same. let e : Some verbs.Clearance ≡ Some verbs.Migrate = is ∙ ap Some same in cc
-no_migrate false false false false false false false false verb is = λ same. let e : None ≡ Some verbs.Migrate = is ∙ ap Some same in cc
+no_migrate : (check round run list load audit state clearance trace : Bool) (verb : Verb) → by_tests check round run list load audit state false clearance trace ≡ Some verb → verb ≢ verbs.Migrate
+no_migrate true round run list load audit state clearance trace verb is = λ same. let e : Some verbs.Check ≡ Some verbs.Migrate = is ∙ ap Some same in cc
+no_migrate false true run list load audit state clearance trace verb is = λ same. let e : Some verbs.Round ≡ Some verbs.Migrate = is ∙ ap Some same in cc
+no_migrate false false true list load audit state clearance trace verb is = λ same. let e : Some verbs.Run ≡ Some verbs.Migrate = is ∙ ap Some same in cc
+no_migrate false false false true load audit state clearance trace verb is = λ same. let e : Some verbs.List ≡ Some verbs.Migrate = is ∙ ap Some same in cc
+no_migrate false false false false true audit state clearance trace verb is = λ same. let e : Some verbs.Load ≡ Some verbs.Migrate = is ∙ ap Some same in cc
+no_migrate false false false false false true state clearance trace verb is = λ same. let e : Some verbs.Audit ≡ Some verbs.Migrate = is ∙ ap Some same in cc
+no_migrate false false false false false false true clearance trace verb is = λ same. let e : Some verbs.State ≡ Some verbs.Migrate = is ∙ ap Some same in cc
+no_migrate false false false false false false false true trace verb is = λ same. let e : Some verbs.Clearance ≡ Some verbs.Migrate = is ∙ ap Some same in cc
+no_migrate false false false false false false false false true verb is = λ same. let e : Some verbs.Trace ≡ Some verbs.Migrate = is ∙ ap Some same in cc
+no_migrate false false false false false false false false false verb is = λ same. let e : None ≡ Some verbs.Migrate = is ∙ ap Some same in cc
 
 first_other : (words : List (List ℕ)) (verb : Verb) → first_verb words ≡ Some verb → begins_with_migrate words ≡ false → verb ≢ verbs.Migrate
 first_other [] verb is other_word = λ same. let e : None ≡ Some verb = is in cc
 first_other (word ∷ rest) verb is other_word =
-    no_migrate (bytes_eq word (codes "check")) (bytes_eq word (codes "round")) (bytes_eq word (codes "run")) (bytes_eq word (codes "list")) (bytes_eq word (codes "load")) (bytes_eq word (codes "audit")) (bytes_eq word (codes "state")) (bytes_eq word (codes "clearance")) verb
-    (subst (λ (b : Bool). by_tests (bytes_eq word (codes "check")) (bytes_eq word (codes "round")) (bytes_eq word (codes "run")) (bytes_eq word (codes "list")) (bytes_eq word (codes "load")) (bytes_eq word (codes "audit")) (bytes_eq word (codes "state")) b (bytes_eq word (codes "clearance")) ≡ Some verb) other_word is)
+    no_migrate (bytes_eq word (codes "check")) (bytes_eq word (codes "round")) (bytes_eq word (codes "run")) (bytes_eq word (codes "list")) (bytes_eq word (codes "load")) (bytes_eq word (codes "audit")) (bytes_eq word (codes "state")) (bytes_eq word (codes "clearance")) (bytes_eq word (codes "trace")) verb
+    (subst (λ (b : Bool). by_tests (bytes_eq word (codes "check")) (bytes_eq word (codes "round")) (bytes_eq word (codes "run")) (bytes_eq word (codes "list")) (bytes_eq word (codes "load")) (bytes_eq word (codes "audit")) (bytes_eq word (codes "state")) b (bytes_eq word (codes "clearance")) (bytes_eq word (codes "trace")) ≡ Some verb) other_word is)
 
 pub not_migrate : (words : List (List ℕ)) (action : Action) → asked words ≡ Some action → is_migrate words ≡ false → action ≢ actions.Migrate
 not_migrate words action is other_word = λ same.
@@ -177,6 +182,7 @@ load_moves verbs.Audit full second moves is = cc
 load_moves verbs.State full second moves is = cc
 load_moves verbs.Migrate full second moves is = cc
 load_moves verbs.Clearance full second moves is = cc
+load_moves verbs.Trace full second moves is = cc
 
 pub asked_moves : (words : List (List ℕ)) (action : Action) → asked words ≡ Some action → (moves : ℕ) → action ≡ actions.Load moves → AreMoves moves
 asked_moves words action is = λ moves same.

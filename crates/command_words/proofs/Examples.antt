@@ -101,7 +101,14 @@ clearance_asked = refl
 clearance_too_many : refused_place (codes "clearance" ∷ codes "c" ∷ codes "h" ∷ []) ≡ Some 2
 clearance_too_many = refl
 
--- so does `state`
+-- so does `trace`, with `--history` or without
+trace_asked : asked (codes "trace" ∷ codes "--history" ∷ codes "c" ∷ []) ≡ Some actions.Trace
+trace_asked = refl
+
+trace_without : refused_place (codes "trace" ∷ []) ≡ Some 1
+trace_without = refl
+
+-- `state` takes three
 state_asked : asked (codes "state" ∷ codes "c" ∷ codes "h" ∷ []) ≡ Some actions.State
 state_asked = refl
 

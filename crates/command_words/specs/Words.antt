@@ -41,6 +41,7 @@ verb_of word =
     else if bytes_eq word (codes "state") then Some verbs.State
     else if bytes_eq word (codes "migrate") then Some verbs.Migrate
     else if bytes_eq word (codes "clearance") then Some verbs.Clearance
+    else if bytes_eq word (codes "trace") then Some verbs.Trace
     else None
 
 -- how many words an action has, its own among them
@@ -73,6 +74,7 @@ action_of verbs.Audit full word = Some actions.Audit
 action_of verbs.State full word = Some actions.State
 action_of verbs.Migrate full word = Some actions.Migrate
 action_of verbs.Clearance full word = Some actions.Clearance
+action_of verbs.Trace full word = Some actions.Trace
 
 -- the action and its words
 abbrev pub plain_words : List (List ℕ) → List (List ℕ)

@@ -27,6 +27,8 @@ pub enum Action {
     Migrate,
     /// Runs the cell round-robin and prints how near each arm came to each of its cell zones.
     Clearance,
+    /// Runs the cell round-robin and prints each event with the place of the statement that it belongs to.
+    Trace,
 }
 
 /// The word of an action.
@@ -41,6 +43,7 @@ pub(crate) enum Verb {
     State,
     Migrate,
     Clearance,
+    Trace,
 }
 
 /// The action, and the name of the script's file; for `load`, the word of its number instead. For `audit` and `state` also
@@ -274,6 +277,8 @@ fn verb_of(word: &[u8]) -> Option<Verb>
         Some(Verb::Migrate)
     } else if word == b"clearance".as_slice() {
         Some(Verb::Clearance)
+    } else if word == b"trace".as_slice() {
+        Some(Verb::Trace)
     } else {
         None
     }
@@ -293,5 +298,6 @@ fn action_of(verb: Verb, full: bool, second: &[u8]) -> Option<Action>
         Verb::State => Some(Action::State),
         Verb::Migrate => Some(Action::Migrate),
         Verb::Clearance => Some(Action::Clearance),
+        Verb::Trace => Some(Action::Trace),
     }
 }

@@ -15,7 +15,7 @@ use Rattle.controller.specs.declared.refused.Refused.{Refused}
 use Rattle.controller.specs.declared.refused.Refused.TheVariants.{Words, Script, Module, Read, Write, Memory, TooLong, History}
 use Rattle.controller.specs.declared.report.Report.{Report}
 use Rattle.controller.specs.declared.shown.Shown.{Shown}
-use Rattle.controller.specs.Answered.{AnswersAccepted, AnswersText, AuditsOrMemory, ListsOrMemory, RunsOrMemory, PrintsBy, accepted_line, run_lines, MeasuresOrMemory, measured_lines, ShowsFound, StatesOrMemory}
+use Rattle.controller.specs.Answered.{AnswersAccepted, AnswersText, AuditsOrMemory, ListsOrMemory, RunsOrMemory, PrintsBy, accepted_line, run_lines, MeasuresOrMemory, measured_lines, ShowsFound, StatesOrMemory, TracesOrMemory, traced_lines}
 use Rattle.controller.specs.Audits.{audit_line, audit_status}
 use Rattle.controller.specs.Files.{IsDoneFault, IsLoadFault}
 use Rattle.controller.specs.Printed.{Sunk}
@@ -80,6 +80,12 @@ run_told Run shown cell report out err (inr answered) = printed_told (run_status
 pub measured_told : (Run : Report → Type 0) (cell : CellData) (report : Report) (out err : Sunk) → MeasuresOrMemory Run cell report out err → IfSome report.refused (IsDoneFault out.old.faults out.new.faults)
 measured_told Run cell report out err (inl memory) = subst (λ (o : Option Refused). IfSome o (IsDoneFault out.old.faults out.new.faults)) (sym memory.refused_is) tt
 measured_told Run cell report out err (inr answered) = printed_told (run_status cell report.history.items) (measured_lines cell report answered.0) report out err answered.3
+
+-- why a run that is traced is refused
+pub traced_told : (Run : Report → Type 0) (cell : CellData) (trees : List TypedTree) (sources : List SourcesData) (report : Report) (out err : Sunk) → TracesOrMemory Run cell trees sources report out err
+    → IfSome report.refused (IsDoneFault out.old.faults out.new.faults)
+traced_told Run cell trees sources report out err (inl memory) = subst (λ (o : Option Refused). IfSome o (IsDoneFault out.old.faults out.new.faults)) (sym memory.refused_is) tt
+traced_told Run cell trees sources report out err (inr answered) = printed_told (run_status cell report.history.items) (traced_lines cell trees sources report) report out err answered.1
 
 -- why a list is refused
 pub list_told : (cell : CellData) (trees : List TypedTree) (report : Report) (out err : Sunk) → ListsOrMemory cell trees report out err → IfSome report.refused (IsDoneFault out.old.faults out.new.faults)

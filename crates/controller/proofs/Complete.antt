@@ -12,8 +12,8 @@ use Rattle.state_text.specs.StateLines.{SourcesData, state_lines}
 use Rattle.cell_meaning.specs.Fates.{all_ended, fates_after, is_spent}
 use Rattle.controller.specs.declared.refused.Refused.TheVariants.{Write}
 use Rattle.controller.specs.declared.report.Report.{Report}
-use Rattle.controller.specs.Accepted.{Accepted, Verdict, accepts, audits, lists, migrates, refuses, runs, runs_free, measures, states}
-use Rattle.controller.specs.Answered.{Answers, AnswersWords, IsOutOfMemory, IsPrinted, accepted_line, run_lines, measured_lines, ShowsFound}
+use Rattle.controller.specs.Accepted.{Accepted, Verdict, accepts, audits, lists, migrates, refuses, runs, runs_free, measures, states, traces}
+use Rattle.controller.specs.Answered.{Answers, AnswersWords, IsOutOfMemory, IsPrinted, accepted_line, run_lines, measured_lines, traced_lines, ShowsFound}
 use Rattle.controller.specs.Audits.{audit_line, audit_status}
 use Rattle.controller.specs.Complete.{IsComplete, IsDone}
 use Rattle.controller.specs.Files.{told_reads}
@@ -40,6 +40,7 @@ carried_out (runs names shown cell trees) report out err whole is = whole_status
 carried_out (runs_free names shown cell trees) report out err whole is = whole_status (run_status cell report.history.items) (run_lines shown cell report) report out err whole is.1
 carried_out (lists names cell trees) report out err whole is = whole_status 0 (listing_of cell is.0) report out err whole is.3
 carried_out (measures names cell trees) report out err whole is = whole_status (run_status cell report.history.items) (measured_lines cell report is.0) report out err whole is.3
+carried_out (traces names cell trees sources) report out err whole is = whole_status (run_status cell report.history.items) (traced_lines cell trees sources report) report out err whole is.1
 carried_out (audits names cell trees events fates) report out err whole is =
     (is.0, is.1, whole_status (audit_status is.0) (audit_line cell.tasks (length events) is.0 ∷ []) report out err whole is.3)
 carried_out (states names cell trees sources events fates) report out err whole is = (is.0, is.1, shown_status cell trees sources events is.0 report out err whole is.3)

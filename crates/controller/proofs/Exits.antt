@@ -21,11 +21,11 @@ use Rattle.controller.specs.declared.shown.Shown.TheVariants as shows
 use Rattle.command_words.specs.Words.{refused_place}
 use Rattle.controller.specs.Files.{Reads, told_reads}
 use Rattle.controller.specs.Loaded.{names_in_turn, file_names, bytes_of, reads_of, IsScriptIn, TextsDecide}
-use Rattle.controller.specs.Accepted.{Verdict, refuses, accepts, runs, runs_free, lists, measures, Accepted, ReadModule, file_text, ModulesOf, checked, names_of, ActionDecides, ActionReads, CheckedDecides, Doing, HistoryDecides, ModulesDecide, FileDecides, WordsDecide, audits, states, sources_in, sources_of}
+use Rattle.controller.specs.Accepted.{Verdict, refuses, accepts, runs, runs_free, lists, measures, Accepted, ReadModule, file_text, ModulesOf, checked, names_of, ActionDecides, ActionReads, CheckedDecides, Doing, HistoryDecides, ModulesDecide, FileDecides, WordsDecide, audits, states, traces, sources_in, sources_of}
 use Rattle.controller.specs.Printed.{Seen, Sunk}
 use Rattle.controller.specs.Refusals.{refusal_text, status_of}
 use Rattle.controller.specs.Runs.{IsRun, IsRunByTurns, run_status}
-use Rattle.controller.specs.Answered.{IsRefused, IsPrinted, Answers, AnswersAccepted, AnswersRun, AnswersHistory, AnswersList, AnswersReads, AnswersMade, AnswersMeasured, IsOutOfMemory, IsVerdict, RunsOrMemory, ListsOrMemory, MeasuresOrMemory, AnswersWords, untouched, PrintsBy, run_lines}
+use Rattle.controller.specs.Answered.{IsRefused, IsPrinted, Answers, AnswersAccepted, AnswersRun, AnswersHistory, AnswersList, AnswersReads, AnswersMade, AnswersMeasured, AnswersTraced, IsOutOfMemory, IsVerdict, RunsOrMemory, ListsOrMemory, MeasuresOrMemory, TracesOrMemory, AnswersWords, untouched, PrintsBy, run_lines}
 use Rattle.controller.specs.Written.{TakesLine}
 use Rattle.controller.specs.Asked.{GiveScript, GiveTexts, IsAsked, IsToDo}
 use Rattle.controller.proofs.Gains.{gained_none}
@@ -280,4 +280,19 @@ cell_measured last text names sources action made report out err is (inr answere
       measures names made.cell made.trees,
       subst (λ (x : Action). ActionDecides (Some x) last (Ok text) names sources made (measures names made.cell made.trees)) (sym is) refl,
       measure_answers names made.cell made.trees report out err answered,
+    )
+
+-- a run is traced
+trace_answers : (names : List (List ℕ)) (cell : CellData) (trees : List TypedTree) (sources : List SourcesData) (report : Report) (out err : Sunk) → AnswersTraced (IsRunByTurns cell trees) cell trees sources report out err
+    → Answers (traces names cell trees sources) report out err
+trace_answers names cell trees sources report out err answered = (answered.0, is_printed answered.1)
+
+pub cell_traced : (last text : List ℕ) (names : List (List ℕ)) (sources : List SourcesData) (action : Action) (made : MadeCell) (report : Report) (out err : Sunk) → action ≡ actions.Trace
+    → TracesOrMemory (IsRunByTurns made.cell made.trees) made.cell made.trees sources report out err → AnswersMade action last text names sources made report out err
+cell_traced last text names sources action made report out err is (inl memory) = inl memory
+cell_traced last text names sources action made report out err is (inr answered) =
+    inr (
+      traces names made.cell made.trees sources,
+      subst (λ (x : Action). ActionDecides (Some x) last (Ok text) names sources made (traces names made.cell made.trees sources)) (sym is) refl,
+      trace_answers names made.cell made.trees sources report out err answered,
     )

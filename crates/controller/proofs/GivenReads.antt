@@ -46,6 +46,7 @@ reads_modules (actions.Load moves) other = refl
 reads_modules actions.Audit other = refl
 reads_modules actions.State other = refl
 reads_modules actions.Clearance other = refl
+reads_modules actions.Trace other = refl
 reads_modules actions.Migrate other = absurd (other refl)
 
 files_read : (action : Action) (gave : Reads) → ReadsFiles action → reads_for (Some action) gave ≡ gave
@@ -56,6 +57,7 @@ files_read actions.List gave reads = refl
 files_read actions.Audit gave reads = refl
 files_read actions.State gave reads = refl
 files_read actions.Clearance gave reads = refl
+files_read actions.Trace gave reads = refl
 files_read (actions.Load moves) gave reads = absurd (reads.0 moves refl)
 files_read actions.Migrate gave reads = absurd (reads.1 refl)
 

@@ -14,7 +14,7 @@ use Rattle.controller.specs.declared.refused.Refused.TheVariants as refusals
 use Rattle.controller.specs.declared.report.Report.{Report}
 use Rattle.rapid_limits.specs.declared.TheConstants.{HISTORY_BYTES}
 use Rattle.controller.specs.Files.{IsUnread, Reads}
-use Rattle.controller.specs.Accepted.{Verdict, audits, refuses, states, file_text, reads_history, ActionDecides, ActionReads, HistoryDecides}
+use Rattle.controller.specs.Accepted.{Verdict, audits, refuses, states, file_text, prints_places, reads_history, ActionDecides, ActionReads, HistoryDecides}
 use Rattle.controller.specs.Answered.{AnswersWords, IsRefused}
 use Rattle.controller.specs.Asked.{IsAsked, IsToDo}
 use Rattle.controller.specs.Printed.{Sunk}
@@ -31,28 +31,30 @@ as_read (actions.Run full) last read text names sources made verdict is d = d
 as_read actions.List last read text names sources made verdict is d = d
 as_read (actions.Load moves) last read text names sources made verdict is d = d
 as_read actions.Clearance last read text names sources made verdict is d = d
+as_read actions.Trace last read text names sources made verdict is d = d
 as_read actions.Migrate last read text names sources made verdict is d = d
 as_read actions.Audit last read text names sources made verdict is d =
     subst (λ (r : Result (List ℕ) Refused). HistoryDecides (audits (names ++ last ∷ []) made.cell made.trees) r (names ++ last ∷ []) made.cell verdict) (sym (is refl)) d
 as_read actions.State last read text names sources made verdict is d =
     subst (λ (r : Result (List ℕ) Refused). HistoryDecides (states (names ++ last ∷ []) made.cell made.trees sources) r (names ++ last ∷ []) made.cell verdict) (sym (is refl)) d
 
--- and only `state` on the modules
+-- and only those that print places on the modules
 as_kept : (action : Action) (last : List ℕ) (read : Result (List ℕ) Refused) (names : List (List ℕ)) (sources kept : List SourcesData) (made : MadeCell) (verdict : Verdict)
-    → (action ≡ actions.State → kept ≡ sources) → ActionDecides (Some action) last read names kept made verdict → ActionDecides (Some action) last read names sources made verdict
+    → (IsTrue (prints_places action) → kept ≡ sources) → ActionDecides (Some action) last read names kept made verdict → ActionDecides (Some action) last read names sources made verdict
 as_kept actions.Check last read names sources kept made verdict is d = d
 as_kept (actions.Round full) last read names sources kept made verdict is d = d
 as_kept (actions.Run full) last read names sources kept made verdict is d = d
 as_kept actions.List last read names sources kept made verdict is d = d
 as_kept (actions.Load moves) last read names sources kept made verdict is d = d
 as_kept actions.Clearance last read names sources kept made verdict is d = d
+as_kept actions.Trace last read names sources kept made verdict is d = subst (λ (s : List SourcesData). ActionDecides (Some actions.Trace) last read names s made verdict) (is refl) d
 as_kept actions.Migrate last read names sources kept made verdict is d = d
 as_kept actions.Audit last read names sources kept made verdict is d = d
 as_kept actions.State last read names sources kept made verdict is d = subst (λ (s : List SourcesData). ActionDecides (Some actions.State) last read names s made verdict) (is refl) d
 
 -- the action with the text of that file, and with the modules that it keeps
 pub text_asked : (words : List (List ℕ)) (told : Option Told) (action : Action) (gave : Reads) (last text : List ℕ) (names : List (List ℕ)) (sources kept : List SourcesData) (made : MadeCell)
-    → (IsTrue (reads_history action) → file_text gave (length names) HISTORY_BYTES last ≡ Ok text) → (action ≡ actions.State → kept ≡ sources) → IsToDo words told (ActionReads (Some action) gave last) names sources made
+    → (IsTrue (reads_history action) → file_text gave (length names) HISTORY_BYTES last ≡ Ok text) → (IsTrue (prints_places action) → kept ≡ sources) → IsToDo words told (ActionReads (Some action) gave last) names sources made
     → IsAsked words told action made kept text
 text_asked words told action gave last text names sources kept made is kept_is to_do = record {
   names = names;
@@ -95,6 +97,7 @@ history_decides (actions.Run full) last names sources made refused is = absurd (
 history_decides actions.List last names sources made refused is = absurd (false≢true is)
 history_decides (actions.Load moves) last names sources made refused is = absurd (false≢true is)
 history_decides actions.Clearance last names sources made refused is = absurd (false≢true is)
+history_decides actions.Trace last names sources made refused is = absurd (false≢true is)
 history_decides actions.Migrate last names sources made refused is = absurd (false≢true is)
 
 pub last_refused : (words : List (List ℕ)) (told : Option Told) (action : Action) (gave : Reads) (last : List ℕ) (names : List (List ℕ)) (sources : List SourcesData) (made : MadeCell) (refused : Refused) (report : Report)

@@ -25,6 +25,8 @@ pub mod Fates
 pub mod Printing
 pub mod PrintingList
 pub mod PrintingState
+mod PrintingTrace
+mod Traced
 pub mod Reports
 pub mod Exits
 pub mod LastReads

@@ -129,6 +129,7 @@ action_one (Some actions.Audit) last read names sources made v w named p q =
 action_one (Some actions.State) last read names sources made v w named p q =
     history_one (states (names ++ last ∷ []) made.cell made.trees sources) read (names ++ last ∷ []) made.cell v w named p q
 action_one (Some actions.Clearance) last read names sources made v w named p q = p ∙ sym q
+action_one (Some actions.Trace) last read names sources made v w named p q = p ∙ sym q
 action_one (Some actions.Migrate) last read names sources made v w named p q = absurd p
 action_one None last read names sources made v w named p q = absurd p
 

@@ -1,12 +1,12 @@
 -- Printing the state of a cell.
-use Rattle.std.proofs.Common.{◌≡◌, ℕ, ◌+◌, ◌<◌, ◌≤◌, min, ◌&&◌, Bool, true, false, List, [], ◌∷◌, ◌++◌, length, drop, take, map, get_or, refl, ap, sym, ◌∙◌, subst, inl, inr, arith, append_assoc}
+use Rattle.std.proofs.Common.{◌≡◌, ℕ, ◌+◌, ◌<◌, ◌≤◌, min, ◌&&◌, List, [], ◌∷◌, ◌++◌, length, drop, take, map, get_or, refl, ap, sym, ◌∙◌, subst, inl, inr, arith, append_assoc}
 use Rattle.std.specs.Prelude.{All, IsTrue, Option, Some, if◌then◌else◌, Vec}
 use Rattle.std.specs.List.{list_all}
 use Rattle.std.specs.declared.alloc.Global.{Global}
 use Rattle.std.proofs.lemmas.Bool.{cases_lt, leb-true}
 use Rattle.std.proofs.lemmas.List.{drop-map, take-map}
 use Rattle.std.proofs.lemmas.List.Elements.{All-cons, All-drop, All-get_or, All-nil, All-take, All-weaker}
-use Rattle.rapid_limits.specs.declared.TheConstants.{LONGEST_FILE_NAME, MODULE_BYTES, MOST_MODULES}
+use Rattle.rapid_limits.specs.declared.TheConstants.{LONGEST_FILE_NAME, MOST_MODULES}
 use Rattle.rapid_model.specs.Limits.{is_start, is_within}
 use Rattle.rapid_model.specs.Names.{is_short_name}
 use Rattle.rapid_model.specs.ScriptData.{IsScript, ScriptData, is_file_name, is_task, takes_axes}
@@ -29,7 +29,7 @@ use Rattle.controller.specs.Loaded.{AreShort, IsWithin, bytes_of, view_modules}
 use Rattle.controller.specs.declared.module_texts.ModuleTexts.{ModuleTexts}
 use Rattle.controller.specs.Printed.{Seen, Sunk}
 use Rattle.controller.specs.Written.{WritesAll, WritesPart}
-use Rattle.controller.proofs.Gains.{between, gained_none}
+use Rattle.controller.proofs.Gains.{between}
 use Rattle.controller.proofs.Lists.{drop-element, drop-past}
 use Rattle.controller.proofs.ModuleFiles.{first_of_all, rest_of_all}
 use Rattle.controller.proofs.Printing.{Printing}

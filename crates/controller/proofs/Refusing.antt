@@ -17,7 +17,7 @@ use Rattle.controller.specs.declared.refused.Refused.{Refused}
 use Rattle.controller.specs.declared.refused.Refused.TheVariants as refusals
 use Rattle.controller.specs.Files.{Reads, text_of}
 use Rattle.command_words.specs.Words.{refused_place, script_name, history_name, asked}
-use Rattle.controller.specs.Accepted.{Doing, Verdict, refuses, accepts, runs, runs_free, lists, audits, migrates, Accepted, ReadModule, file_text, reads_for, fault_refusal, ModuleIn, ModulesOf, checked, ActionDecides, ActionReads, AloneDecides, AskedDecides, CheckedDecides, MigrationDecides, reads_script_alone, HistoryDecides, ModulesDecide, names_of, ScriptDecides, FileDecides, WordsDecide, measures, states, sources_of}
+use Rattle.controller.specs.Accepted.{Doing, Verdict, refuses, accepts, runs, runs_free, lists, audits, migrates, Accepted, ReadModule, file_text, reads_for, fault_refusal, ModuleIn, ModulesOf, checked, ActionDecides, ActionReads, AloneDecides, AskedDecides, CheckedDecides, MigrationDecides, reads_script_alone, HistoryDecides, ModulesDecide, names_of, ScriptDecides, FileDecides, WordsDecide, measures, states, traces, sources_of}
 use Rattle.state_text.specs.StateLines.{SourcesData}
 use Rattle.controller.proofs.Checking.{checks_refuse}
 
@@ -43,6 +43,7 @@ RefusesInput (audits names cell trees events fates) = Unit {0}
 RefusesInput (states names cell trees sources events fates) = Unit {0}
 RefusesInput (migrates names text) = Unit {0}
 RefusesInput (measures names cell trees) = Unit {0}
+RefusesInput (traces names cell trees sources) = Unit {0}
 
 is_refused : (names : List (List ℕ)) (refused : Refused) (verdict : Verdict) → IsOfInput refused → verdict ≡ refuses names refused → RefusesInput verdict
 is_refused names refused verdict of is = subst RefusesInput (sym is) of
@@ -95,6 +96,7 @@ of_action (Some actions.Audit) last read names sources made verdict of d =
 of_action (Some actions.State) last read names sources made verdict of d =
     of_history (states (names ++ last ∷ []) made.cell made.trees sources) read (names ++ last ∷ []) made.cell verdict of (λ events fates. tt) d
 of_action (Some actions.Clearance) last read names sources made verdict of d = subst RefusesInput (sym d) tt
+of_action (Some actions.Trace) last read names sources made verdict of d = subst RefusesInput (sym d) tt
 of_action (Some actions.Migrate) last read names sources made verdict of d = absurd d
 of_action None last read names sources made verdict of d = absurd d
 

@@ -63,11 +63,12 @@ measured_are cell history clearances report tells =
     ap (λ (h : List Event). clearance_lines cell h cell.zones clearances ++ fate_lines cell.tasks (fates_after cell history (length cell.tasks))) (sym tells.history_is)
     ∙ ap (λ (fates : List Fate). clearance_lines cell report.history.items cell.zones clearances ++ fate_lines cell.tasks fates) (sym tells.fates_is)
 
-measured_printed : (cell : CellData) (history : List Event) (clearances : List Clearance) (status : ℕ) (printed : Result ⊤ Failed) (report : Report) (out err : Sunk) → TellsRun cell history report → status ≡ run_status cell history
-    → Writes (measured_lines cell report clearances) printed out → Closes status printed report err → PrintsBy (run_status cell report.history.items) (measured_lines cell report clearances) report out err
-measured_printed cell history clearances status (Ok _) report out err tells is wrote closed =
+-- lines of a run that is closed
+pub lines_printed : (cell : CellData) (history : List Event) (lines : List (List ℕ)) (status : ℕ) (printed : Result ⊤ Failed) (report : Report) (out err : Sunk) → TellsRun cell history report → status ≡ run_status cell history
+    → Writes lines printed out → Closes status printed report err → PrintsBy (run_status cell report.history.items) lines report out err
+lines_printed cell history lines status (Ok _) report out err tells is wrote closed =
     inl (record { refused_is = closed.0; status_is = closed.1 ∙ is ∙ ap (run_status cell) (sym tells.history_is); printed = wrote.bytes; calls = wrote.calls; told = closed.2 })
-measured_printed cell history clearances status (Err _) report out err tells is wrote closed =
+lines_printed cell history lines status (Err _) report out err tells is wrote closed =
     inr (record { refused_is = closed.0; status_is = closed.1; printed = wrote.bytes; calls = wrote.calls; told = closed.2 }, wrote.rose)
 
 pub measured_closed : (cell : CellData) (history : List Event) (status : ℕ) (printed : Result ⊤ Failed) (report : Report) (out err : Sunk) → TellsRun cell history report → status ≡ run_status cell history
@@ -76,7 +77,7 @@ measured_closed cell history status printed report out err tells is wrote closed
   wrote.clearances,
   tells,
   subst (λ (h : List Event). AreClearances cell h cell.zones wrote.clearances) (sym tells.history_is) wrote.are,
-  measured_printed cell history wrote.clearances status printed report out err tells is
+  lines_printed cell history (measured_lines cell report wrote.clearances) status printed report out err tells is
       (subst (λ (lines : List (List ℕ)). Writes lines printed out) (measured_are cell history wrote.clearances report tells) wrote.written) closed,
 )
 
@@ -91,7 +92,7 @@ pub record IsSound (cell : CellData) (trees : List TypedTree) (history : List Ev
   pub legal : IsLegal (with_inputs (tree_asks trees) cell) cell history
   pub whole : IsWhole (with_inputs (tree_asks trees) cell) cell history
 
-run_of : (cell : CellData) (trees : List TypedTree) (history : List Event) (report : Report) → IsSound cell trees history → TellsRun cell history report → IsRun cell trees report
+pub run_of : (cell : CellData) (trees : List TypedTree) (history : List Event) (report : Report) → IsSound cell trees history → TellsRun cell history report → IsRun cell trees report
 run_of cell trees history report sound tells =
     let legal : IsLegal (with_inputs (tree_asks trees) cell) cell report.history.items =
     subst (λ (h : List Event). IsLegal (with_inputs (tree_asks trees) cell) cell h) (sym tells.history_is) sound.legal in

@@ -1,6 +1,6 @@
 -- What command words and files come to: the first refusal; that all is accepted; the cell and the trees of its tasks, for
 -- `audit` and `state` with a history; or for `migrate` the text of the script.
-use Rattle.std.specs.Prelude.{◌≡◌, ℕ, Bool, true, false, zero, suc, ◌+◌, ◌++◌, ◌⊎◌, take, drop, slice_get, List, [], ◌∷◌, length, map, Option, Some, None, is_some, Result, Ok, Err}
+use Rattle.std.specs.Prelude.{◌≡◌, ℕ, Bool, true, false, zero, suc, ◌+◌, ◌++◌, ◌⊎◌, take, drop, slice_get, List, [], ◌∷◌, length, map, Option, Some, None, Result, Ok, Err}
 use Rattle.rapid_limits.specs.declared.TheConstants.{HISTORY_BYTES, MODULE_BYTES, SCRIPT_BYTES}
 use Rattle.rapid_model.specs.CellData.{CellData}
 use Rattle.rapid_model.specs.ScriptData.{ScriptData, module_names}
@@ -41,8 +41,8 @@ use Rattle.command_words.specs.Words.{refused_place, script_name, history_name, 
 -- The refusal; or all is accepted, for `check`; or the cell and the trees, for a round-robin run or one in which each
 -- task runs on its own, with what is printed of it, or for their list, or for the audit of a history with these events
 -- and fates, or for the state after it, whose places are those of the tasks' modules, or for a round-robin run that is
--- measured; or the text of the script, for the same in version 2. And the names of the files in the order in which they
--- are read, as far as the script is known.
+-- measured, or for one that is traced, with the same places; or the text of the script, for the same in version 2. And
+-- the names of the files in the order in which they are read, as far as the script is known.
 pub data Verdict : Type 0 where
   refuses : List (List ℕ) → Refused → Verdict
   accepts : List (List ℕ) → Verdict
@@ -52,6 +52,7 @@ pub data Verdict : Type 0 where
   audits : List (List ℕ) → CellData → List TypedTree → List Event → List Fate → Verdict
   states : List (List ℕ) → CellData → List TypedTree → List SourcesData → List Event → List Fate → Verdict
   measures : List (List ℕ) → CellData → List TypedTree → Verdict
+  traces : List (List ℕ) → CellData → List TypedTree → List SourcesData → Verdict
   migrates : List (List ℕ) → List ℕ → Verdict
 
 -- what the read of a file of this number comes to
@@ -179,6 +180,12 @@ reads_history actions.Audit = true
 reads_history actions.State = true
 reads_history action = false
 
+-- the action prints places in the tasks' modules
+abbrev pub prints_places : Action → Bool
+prints_places actions.State = true
+prints_places actions.Trace = true
+prints_places action = false
+
 -- What the action comes to if all is accepted, with this cell and these trees. `audit` and `state` read one more file,
 -- of this name, and this is what the read comes to. `migrate` asks for no cell, and words without an action are refused.
 abbrev pub ActionDecides : Option Action → List ℕ → Result (List ℕ) Refused → Doing
@@ -192,6 +199,7 @@ ActionDecides (Some actions.Audit) last read names sources made verdict =
 ActionDecides (Some actions.State) last read names sources made verdict =
     HistoryDecides (states (names ++ last ∷ []) made.cell made.trees sources) read (names ++ last ∷ []) made.cell verdict
 ActionDecides (Some actions.Clearance) last read names sources made verdict = verdict ≡ measures names made.cell made.trees
+ActionDecides (Some actions.Trace) last read names sources made verdict = verdict ≡ traces names made.cell made.trees sources
 ActionDecides (Some actions.Migrate) last read names sources made verdict = ⊥
 ActionDecides None last read names sources made verdict = ⊥
 

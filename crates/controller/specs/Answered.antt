@@ -18,6 +18,7 @@ use Rattle.history_audit.specs.Audits.{IsAudit}
 use Rattle.history_audit.specs.declared.audit_fault.AuditFault.{AuditFault}
 use Rattle.cell_state.specs.States.{CellStateData, IsStateAfter}
 use Rattle.state_text.specs.StateLines.{SourcesData, state_lines}
+use Rattle.state_text.specs.TraceLines.{trace_lines}
 use Rattle.cell_assembly.specs.Made.{MadeCell}
 use Rattle.cell_listing.specs.Listing.{listing_of}
 use Rattle.script_migration.specs.Migrated.{Migrates}
@@ -28,12 +29,12 @@ use Rattle.controller.specs.declared.refused.Refused.TheVariants.{Write, Memory}
 use Rattle.command_words.specs.declared.command.Action.{Action}
 use Rattle.controller.specs.declared.shown.Shown.{Shown}
 use Rattle.controller.specs.Files.{Reads, told_reads}
-use Rattle.controller.specs.Accepted.{Doing, Verdict, refuses, accepts, runs, runs_free, lists, audits, migrates, Accepted, ReadModule, checked, ActionDecides, CheckedDecides, HistoryDecides, measures, states, sources_of}
+use Rattle.controller.specs.Accepted.{Doing, Verdict, refuses, accepts, runs, runs_free, lists, audits, migrates, Accepted, ReadModule, checked, ActionDecides, CheckedDecides, HistoryDecides, measures, states, traces, sources_of}
 use Rattle.controller.specs.Audits.{audit_line, audit_status}
 use Rattle.controller.specs.Clearances.{AreClearances, Clearance, clearance_lines}
 use Rattle.controller.specs.Refusals.{status_of, refusal_line}
 use Rattle.controller.specs.Runs.{IsRun, IsRunByTurns, run_status}
-use Rattle.controller.specs.Output.{lines_of, output_of}
+use Rattle.controller.specs.Output.{lines_of}
 use Rattle.controller.specs.Sends.{SendsLines, SendsSome}
 use Rattle.controller.specs.Printed.{Seen, Sunk, Gained, GainedPart, GainedCalls}
 use Rattle.controller.specs.Written.{TakesLine}
@@ -87,6 +88,10 @@ PrintsBy status lines report out err =
 -- the lines of a run that is measured: those of the zones, and then those of the tasks
 abbrev pub measured_lines : CellData → Report → List Clearance → List (List ℕ)
 measured_lines cell report clearances = clearance_lines cell report.history.items cell.zones clearances ++ fate_lines cell.tasks report.fates.items
+
+-- the lines of a run that is traced: those of the events with their places, and then those of the tasks
+abbrev pub traced_lines : CellData → List TypedTree → List SourcesData → Report → List (List ℕ)
+traced_lines cell trees sources report = trace_lines cell.tasks trees sources report.history.items ++ fate_lines cell.tasks report.fates.items
 
 -- the lines of a run
 abbrev pub run_lines : Shown → CellData → Report → List (List ℕ)
@@ -154,6 +159,11 @@ AnswersMeasured Run cell report out err =
     (clearances : List Clearance) × Run report × AreClearances cell report.history.items cell.zones clearances
     × PrintsBy (run_status cell report.history.items) (measured_lines cell report clearances) report out err
 
+-- the answer of a run of which this holds, traced: each event is printed with its place in these modules
+abbrev pub AnswersTraced : (Report → Type 0) → CellData → List TypedTree → List SourcesData → Report → Sunk → Sunk → Type 0
+AnswersTraced Run cell trees sources report out err =
+    Run report × PrintsBy (run_status cell report.history.items) (traced_lines cell trees sources report) report out err
+
 -- the answer to a verdict
 abbrev pub Answers : Verdict → Report → Sunk → Sunk → Type 0
 Answers (refuses names refused) report out err = IsRefused names refused report out err
@@ -173,6 +183,8 @@ Answers (states names cell trees sources events fates) report out err =
 Answers (measures names cell trees) report out err =
     (clearances : List Clearance) × IsRunByTurns cell trees report × AreClearances cell report.history.items cell.zones clearances
     × IsPrinted (run_status cell report.history.items) (measured_lines cell report clearances) report out err
+Answers (traces names cell trees sources) report out err =
+    IsRunByTurns cell trees report × IsPrinted (run_status cell report.history.items) (traced_lines cell trees sources report) report out err
 Answers (migrates names text) report out err = (new : List ℕ) × Migrates text new × RanNothing report × IsPrinted 0 (new ∷ []) report out err
 
 -- out of memory: before the first event, with nothing printed
@@ -186,6 +198,10 @@ RunsOrMemory Run shown cell report out err = IsOutOfMemory report out err ⊎ An
 -- a run that is measured, or out of memory
 abbrev pub MeasuresOrMemory : (Report → Type 0) → CellData → Report → Sunk → Sunk → Type 0
 MeasuresOrMemory Run cell report out err = IsOutOfMemory report out err ⊎ AnswersMeasured Run cell report out err
+
+-- a run that is traced, or out of memory
+abbrev pub TracesOrMemory : (Report → Type 0) → CellData → List TypedTree → List SourcesData → Report → Sunk → Sunk → Type 0
+TracesOrMemory Run cell trees sources report out err = IsOutOfMemory report out err ⊎ AnswersTraced Run cell trees sources report out err
 
 -- a list, or out of memory
 abbrev pub ListsOrMemory : CellData → List TypedTree → Report → Sunk → Sunk → Type 0

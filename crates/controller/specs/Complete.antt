@@ -7,7 +7,7 @@ use Rattle.rapid_meaning.specs.Asking.{tree_asks}
 use Rattle.cell_meaning.specs.Asking.{with_inputs}
 use Rattle.history_audit.specs.Audits.{IsAudit}
 use Rattle.history_audit.specs.declared.audit_fault.AuditFault.{AuditFault}
-use Rattle.controller.specs.Accepted.{Verdict, accepts, audits, lists, migrates, refuses, runs, runs_free, measures, states}
+use Rattle.controller.specs.Accepted.{Verdict, accepts, audits, lists, migrates, refuses, runs, runs_free, measures, states, traces}
 use Rattle.controller.specs.Answered.{IsOutOfMemory, IsVerdict}
 use Rattle.controller.specs.Audits.{audit_status}
 use Rattle.controller.specs.Printed.{Sunk}
@@ -23,6 +23,7 @@ IsDone (runs names shown cell trees) report = report.status ≡ run_status cell 
 IsDone (runs_free names shown cell trees) report = report.status ≡ run_status cell report.history.items
 IsDone (lists names cell trees) report = report.status ≡ 0
 IsDone (measures names cell trees) report = report.status ≡ run_status cell report.history.items
+IsDone (traces names cell trees sources) report = report.status ≡ run_status cell report.history.items
 IsDone (audits names cell trees events fates) report =
     (found : Result Bool AuditFault) × IsAudit (with_inputs (tree_asks trees) cell) cell events fates found × (report.status ≡ audit_status found)
 IsDone (states names cell trees sources events fates) report =

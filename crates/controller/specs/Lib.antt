@@ -9,6 +9,7 @@ pub mod Measured
 pub mod Accepted
 pub mod Loaded
 pub mod Runs
+pub mod RunsAsked
 pub mod Sends
 pub mod Printed
 pub mod Written

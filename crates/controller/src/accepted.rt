@@ -19,8 +19,8 @@ use std::alloc::Global;
 use std::convert::AsSlice;
 
 /// The action that the words ask for, unless it is `migrate`, and what it is done with: the cell of the script and the
-/// modules that it names, or the load cell; for `state` also the texts of the modules; and for `audit` and `state` the
-/// text of the history. Or the report of the refusal, whose line is printed. Other texts are freed by then.
+/// modules that it names, or the load cell; for `state` and `trace` also the texts of the modules; and for `audit` and
+/// `state` the text of the history. Or the report of the refusal, whose line is printed. Other texts are freed by then.
 pub(crate) fn accepted_cell<W: AsSlice<u8>, S: Shelf, E: Sink>(
     alloc: Global,
     words: &[W],

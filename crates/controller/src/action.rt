@@ -19,6 +19,7 @@ use crate::report::{Report, report_accepted};
 use crate::run::run_cell;
 use crate::shown::Shown;
 use crate::state_cell::state_cell;
+use crate::trace_cell::trace_cell;
 use command_words::{Action, is_migrate};
 use outside::{Shelf, Sink};
 use std::alloc::Global;
@@ -48,6 +49,9 @@ use std::convert::AsSlice;
 ///   least distance on the way there in thousandths of a degree, the first fraction of the way that has it, and the
 ///   sides of the zone that prove it; and a line of `C`, the first of these segments that came nearest; then the lines
 ///   of `E`;
+/// - for `trace CELL`, which runs the cell as `round` does: for each event a line of `M`, with its task, `-` for the input
+///   script; the file, the line and the column of the statement, which are those of the last Look that the task had asked
+///   by then, `- -` without one; what was asked and what the cell answered; then the lines of `E`;
 /// - for `migrate CELL`, which reads no module: the script in version 2, as `migrate_script` prints it.
 ///
 /// `--history` may be given anywhere among the words, once: with it `round` prints, in place of `S` and `T`, the line
@@ -128,6 +132,7 @@ fn do_prepared<O: Sink, E: Sink>(
         Action::Audit => audit_cell(alloc, accepted, text.as_slice(), out, err),
         Action::State => state_cell(alloc, accepted, &modules, text.as_slice(), out, err),
         Action::Clearance => measure_cell(alloc, accepted, out, err),
+        Action::Trace => trace_cell(alloc, accepted, &modules, out, err),
         Action::Run { .. } => unreachable!(),
         Action::Migrate => unreachable!(),
     }

@@ -1,6 +1,6 @@
 //! The controller: command words and files in, a report and printed lines out. It loads, checks and compiles a cell,
-//! runs it round-robin or on threads, measures a run, audits a history of it or tells the state after one, and prints the
-//! run, the tables, what was found, the state, the script in version 2 or the refusal.
+//! runs it round-robin or on threads, measures or traces a run, audits a history of it or tells the state after one, and
+//! prints the run, the tables, what was found, the state, the script in version 2 or the refusal.
 #![tactic(auto)]
 
 mod accepted;
@@ -26,6 +26,7 @@ mod print_gap;
 mod print_list;
 mod print_state;
 mod print_summary;
+mod print_trace;
 mod refused;
 mod report;
 mod run;
@@ -35,6 +36,7 @@ mod state_cell;
 mod texts;
 mod texts_cell;
 mod top;
+mod trace_cell;
 
 pub use action::quiet;
 pub use command_words::{Action, is_run};

@@ -249,14 +249,14 @@ fn print_datum<O: Sink>(
 }
 
 /// The first elements, this many or all of them.
-fn first_of<T>(all: &[T], count: usize) -> &[T]
+pub(crate) fn first_of<T>(all: &[T], count: usize) -> &[T]
     ensures { result.now ≡ take count all.now }
 {
     &all[..count.min(all.len())]
 }
 
 /// The elements after the first of them, this many or all.
-fn after_first<T>(all: &[T], count: usize) -> &[T]
+pub(crate) fn after_first<T>(all: &[T], count: usize) -> &[T]
     ensures { result.now ≡ drop count all.now }
 {
     &all[count.min(all.len())..]

@@ -13,12 +13,13 @@ use rapid_model::{Event, Fate};
 use std::alloc::Global;
 
 /// The outcome of a call: its status, the history of the run, the fate of each task in script order, and the refusal,
-/// if there is one. Only `round`, `run`, `load` and `clearance` make a history and fates. A refusal other than `Write`
-/// leaves none.
+/// if there is one. Only `round`, `run`, `load`, `clearance` and `trace` make a history and fates. A refusal other than
+/// `Write` leaves none.
 ///
-/// Without a refusal the status is 0 for `check`, `list` and `migrate`. For a run, measured or not, it is 0 if every task
-/// ended without a fault, 1 if every task ended and one with a fault, 8 if no task that has not ended can go on, and 9 if
-/// the steps are spent. For `audit` and `state` it is 0 if nothing is wrong with the history, and 12 otherwise.
+/// Without a refusal the status is 0 for `check`, `list` and `migrate`. For a run, also if it is measured or traced, it
+/// is 0 if every task ended without a fault, 1 if every task ended and one with a fault, 8 if no task that has not ended
+/// can go on, and 9 if the steps are spent. For `audit` and `state` it is 0 if nothing is wrong with the history, and 12
+/// otherwise.
 #[derive(Debug, Drop)]
 pub struct Report {
     pub status: u8,

@@ -1,7 +1,7 @@
-ghost use Rattle.std.specs.Prelude.{◌≡◌, ◌≢◌, ◌≤◌, ℕ, List, All, IfOk, IfErr, IfSome, length};
+ghost use Rattle.std.specs.Prelude.{◌≡◌, ◌≢◌, ◌≤◌, ℕ, List, All, IfOk, IfErr, IfSome, IsTrue, length};
 ghost use Rattle.rapid_limits.specs.declared.TheConstants.{HISTORY_BYTES};
 ghost use Rattle.controller.specs.Files.{IsLoadFault};
-ghost use Rattle.controller.specs.Accepted.{sources_in};
+ghost use Rattle.controller.specs.Accepted.{prints_places, sources_in};
 ghost use Rattle.controller.specs.Loaded.{bytes_of, made_of, view_modules, AreShort, HasScript, IsWithin};
 ghost use Rattle.controller.specs.Printed.{sunk, Seen};
 ghost use Rattle.controller.specs.Answered.{untouched, AnswersWords};
@@ -20,7 +20,8 @@ use rapid_model::Script;
 use std::alloc::Global;
 
 /// What an action is done with, by the script in the file that a command names and the modules that it names: the cell,
-/// for `state` also the texts of the modules, and for `audit` and `state` the text of the history, which is read last.
+/// for `state` and `trace` also the texts of the modules, and for `audit` and `state` the text of the history, which is
+/// read last.
 /// Otherwise the report of the refusal, whose line is printed.
 pub(crate) fn shelf_cell<S: Shelf, E: Sink>(
     alloc: Global,
@@ -68,11 +69,11 @@ pub(crate) fn shelf_cell<S: Shelf, E: Sink>(
 
 /// The modules that an action prints places of.
 fn kept_modules(action: Action, script: Script, texts: Vec<Vec<u8>>) -> Option<ModuleTexts>
-    ensures kept { action ≡ Action.State → view_modules result ≡ sources_in script.tasks (bytes_of texts.items) }
+    ensures kept { IsTrue (prints_places action) → view_modules result ≡ sources_in script.tasks (bytes_of texts.items) }
     ensures short { All IsWithin texts.items → AreShort result }
 {
     match action {
-        Action::State => Some(ModuleTexts { script, texts }),
+        Action::State | Action::Trace => Some(ModuleTexts { script, texts }),
         _ => None,
     }
 }

@@ -17,8 +17,8 @@ use std::sync::Wait;
 use std::thread::Threads;
 
 /// Does what the command words say: `check CELL`, `round CELL`, `list CELL`, `load N`, `audit CELL HISTORY`,
-/// `state CELL HISTORY`, `clearance CELL` and `migrate CELL` as `quiet` does, and `run CELL` as `free` does. A refusal is
-/// one line on the second sink. If the words ask for `run`, it waits as `free` does, and its clauses hold if it returns.
+/// `state CELL HISTORY`, `clearance CELL`, `trace CELL` and `migrate CELL` as `quiet` does, and `run CELL` as `free` does.
+/// A refusal is one line on the second sink. If the words ask for `run`, it waits as `free` does, and its clauses hold if it returns.
 pub fn controller<
     R: Threads + Wait + Sync,
     W: AsSlice<u8>,

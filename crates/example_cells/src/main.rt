@@ -99,7 +99,11 @@ fn lines_of_events(text: &[u8]) -> usize {
 
 /// What was told, if it is not what is wanted.
 fn unless_same(got: Vec<u8>, wanted: &[u8]) -> Option<Vec<u8>> {
-    if got.as_slice() == wanted { None } else { Some(got) }
+    if got.as_slice() == wanted {
+        None
+    } else {
+        Some(got)
+    }
 }
 
 /// The status of an action on an example and what it prints, as kept with the examples.

@@ -4,10 +4,11 @@ use Rattle.std.specs.Prelude.{codes, replicate}
 use Rattle.std.specs.Fmt.{digits}
 use Rattle.rapid_num.specs.declared.shape.Shape.{Shape}
 use Rattle.rapid_model.specs.CellData.{CellData}
+use Rattle.rapid_model.specs.declared.answer.Answer.TheVariants.{Go, Ok}
 use Rattle.rapid_model.specs.declared.fate.Fate.TheVariants as fates
 use Rattle.rapid_model.specs.declared.part_name.PartName.TheVariants as parts
 use Rattle.rapid_model.specs.declared.path.Path.{Path}
-use Rattle.rapid_model.specs.declared.request.Request.TheVariants.{End, Hold, Look, WriteP}
+use Rattle.rapid_model.specs.declared.request.Request.TheVariants.{End, Hold, Input, Look, WriteP}
 use Rattle.rapid_model.specs.declared.sort.Sort.{Sort}
 use Rattle.rapid_model.specs.declared.sort.Sort.TheVariants as sorts
 use Rattle.rapid_model.specs.declared.task_row.TaskRow.{TaskRow}
@@ -16,6 +17,7 @@ use Rattle.typed_trees.specs.Plain.{TypedSlot, TypedTree}
 use Rattle.typed_trees.specs.declared.datum.Datum.TheVariants.{Mark, Plain, Shape as ShapeOf}
 use Rattle.cell_listing.specs.Listing.{numbered}
 use Rattle.cell_state.specs.States.{TaskStateData}
+use Rattle.state_text.specs.TraceLines.{no_sources, trace_line}
 use Rattle.state_text.specs.StateLines.{SourcesData, datum_line, datum_lines, state_lines, task_line, value_line, value_lines}
 
 tasks : List TaskRow
@@ -105,3 +107,22 @@ ended = refl
 placeless : task_line (codes "B") sources (record { place = None; next = Some (End fates.Done); values = [] }) ≡ codes "N B - - End Done\n"
 unfolding digits
 placeless = refl
+
+-- events with their places: a write of the statement that began last, the Look of another one, the End of a task that
+-- never looked, and a step of the input script
+written : trace_line tasks sources (Some (record { «module» = 0; byte = 67 })) (record { actor = 0; request = WriteP 0 busy (values.Bool false); answer = Ok })
+    ≡ codes "M A sem.mod 5:1 WriteP P0 FALSE > Ok\n"
+unfolding digits tasks
+written = refl
+
+looked : trace_line tasks sources (Some (record { «module» = 0; byte = 46 })) (record { actor = 1; request = Look; answer = Go 3 }) ≡ codes "M B sem.mod 4:1 Look > Go 3\n"
+unfolding digits tasks
+looked = refl
+
+over : trace_line tasks sources None (record { actor = 1; request = End fates.Done; answer = Ok }) ≡ codes "M B - - End Done > Ok\n"
+unfolding tasks
+over = refl
+
+step : trace_line tasks no_sources None (record { actor = 2; request = Input 0; answer = Ok }) ≡ codes "M - - - Input 0 > Ok\n"
+unfolding digits tasks
+step = refl

@@ -1,2 +1,3 @@
 pub mod StateLines
+pub mod TraceLines
 pub mod Seen

@@ -15,5 +15,5 @@ pub(crate) const PLACE_BYTES: usize = LONGEST_FILE_NAME + 2 * COUNT_BYTES + 2;
 /// The words of a line before a request: two letters, a name, a place and two spaces.
 pub(crate) const HEAD_BYTES: usize = 2 + LONGEST_NAME + PLACE_BYTES + 2;
 
-/// A line, in bytes: the longest are those of requests.
-pub const LINE_BYTES: usize = HEAD_BYTES + history_text::LINE_BYTES + 1;
+/// A line, in bytes: the longest are those of events, with a request and an answer.
+pub const LINE_BYTES: usize = HEAD_BYTES + 2 * history_text::LINE_BYTES + 4;

@@ -3,8 +3,8 @@ use Rattle.typed_trees.specs.Views.{view_tree}
 use Rattle.controller.specs.Loaded.{made_of, view_modules}
 use Rattle.controller.specs.Runs.{IsRunByTurns}
 use Rattle.controller.specs.declared.shown.Shown.TheVariants as shows
-use Rattle.controller.proofs.Causes.{accepted_told, list_told, measured_told, run_told}
-use Rattle.controller.proofs.Exits.{all_accepted, cell_audited, cell_listed, cell_measured, cell_stated, load_run, round_run}
+use Rattle.controller.proofs.Causes.{accepted_told, list_told, measured_told, run_told, traced_told}
+use Rattle.controller.proofs.Exits.{all_accepted, cell_audited, cell_listed, cell_measured, cell_stated, cell_traced, load_run, round_run}
 use Rattle.controller.proofs.action.do_prepared.Goals as goal
 
 pub returns-in-Check-clause-answers : goal.returns-in-Check-clause-answers
@@ -46,6 +46,14 @@ returns-in-Clearance-clause-answers g c = λ last names. cell_measured last c.ar
 
 pub returns-in-Clearance-clause-causes : goal.returns-in-Clearance-clause-causes
 returns-in-Clearance-clause-causes g c = measured_told (IsRunByTurns c.args.prepared.accepted.cell (map view_tree c.args.prepared.accepted.trees.items)) c.args.prepared.accepted.cell _ _ _ c.measure_cell.ensures
+
+pub returns-in-Trace-clause-answers : goal.returns-in-Trace-clause-answers
+returns-in-Trace-clause-answers g c = λ last names. cell_traced last c.args.prepared.text.items names (view_modules c.args.prepared.modules) c.args.action (made_of c.args.prepared.accepted) _ _ _ c.in-Trace.is c.trace_cell.ensures
+
+pub returns-in-Trace-clause-causes : goal.returns-in-Trace-clause-causes
+returns-in-Trace-clause-causes g c =
+    traced_told (IsRunByTurns c.args.prepared.accepted.cell (map view_tree c.args.prepared.accepted.trees.items)) c.args.prepared.accepted.cell (map view_tree c.args.prepared.accepted.trees.items)
+    (view_modules c.args.prepared.modules) _ _ _ c.trace_cell.ensures
 
 pub unreachable-requires : goal.unreachable-requires
 unreachable-requires g c = c.requires.other _ c.in-Run.is

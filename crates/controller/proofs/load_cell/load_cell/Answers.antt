@@ -5,7 +5,7 @@ use Rattle.cell_load.specs.Texts.{module_files}
 use Rattle.cell_load.specs.Views.{view_modules}
 use Rattle.command_words.specs.declared.command.Action.{Action}
 use Rattle.command_words.specs.declared.command.Action.TheVariants as actions
-use Rattle.controller.specs.Accepted.{reads_history, sources_in}
+use Rattle.controller.specs.Accepted.{prints_places, reads_history, sources_in}
 use Rattle.controller.specs.Files.{IsLoadFault}
 use Rattle.controller.specs.LoadFiles.{module_named}
 use Rattle.controller.specs.Loaded.{bytes_of, file_names, made_of, names_in_turn}
@@ -89,8 +89,8 @@ returns-clause-causes g c = IfErr-weaker c.texts_cell.result _ _ (λ report caus
 no_history : (action : Action) (moves : ℕ) → action ≡ actions.Load moves → IsTrue (reads_history action) → ⊥
 no_history action moves is reads = let e : false ≡ true = sym (ap reads_history is) ∙ reads in cc
 
-no_state : (action : Action) (moves : ℕ) → action ≡ actions.Load moves → action ≡ actions.State → ⊥
-no_state action moves is state = let same : actions.Load moves ≡ actions.State = sym is ∙ state in cc
+no_places : (action : Action) (moves : ℕ) → action ≡ actions.Load moves → IsTrue (prints_places action) → ⊥
+no_places action moves is prints = let e : false ≡ true = sym (ap prints_places is) ∙ prints in cc
 
 pub returns-clause-asked : goal.returns-clause-asked
 returns-clause-asked g c =
@@ -103,4 +103,4 @@ returns-clause-asked g c =
     c.requires.moves (c.as_slice.ensures.value ∙ c.in-Ok.ensures.script) c.in-Ok-script_of.ensures.script (ap names_in_turn c.as_slice-files.ensures.value ∙ c.in-Ok-module_files.ensures.named) texts in
     text_asked words told c.args.command.now.action given.given.gave c.args.command.now.history.now text (file_names c.args.command.now.script.now c.as_slice-files.result.now) (sources_in c.in-Ok-script_of.script.tasks seen) []
     (made_of accepted) (λ reads. absurd (no_history c.args.command.now.action c.args.moves c.requires.action reads))
-    (λ state. absurd (no_state c.args.command.now.action c.args.moves c.requires.action state)) (is_to_do words told given)) c.texts_cell.ensures.asked
+    (λ prints. absurd (no_places c.args.command.now.action c.args.moves c.requires.action prints)) (is_to_do words told given)) c.texts_cell.ensures.asked

@@ -72,7 +72,7 @@ returns-in-Ok-load_last-clause-asked g c = λ words is_for.
     (record { within = c.in-Ok-load_last.ensures.within; unread = tt; gives = λ reads. c.in-Ok-load_last.ensures.gives reads }) in
     text_asked words (g.S.Shelf.told c.args.shelf.now) c.args.command.now.action last.given.given.gave c.args.command.now.history.now c.in-Ok-load_last.text.items
     (file_names c.args.command.now.script.now c.as_slice-files.result.now) (sources_in c.in-Ok.script.tasks (bytes_of c.as_slice-read.result.now)) _ (made_of c.in-Ok-texts_cell.accepted) last.last
-    (λ state. c.kept_modules.ensures.kept state ∙ ap (λ (texts : List (Vec ℕ Global)). sources_in c.in-Ok.script.tasks (bytes_of texts)) (sym c.as_slice-read.ensures.value))
+    (λ prints. c.kept_modules.ensures.kept prints ∙ ap (λ (texts : List (Vec ℕ Global)). sources_in c.in-Ok.script.tasks (bytes_of texts)) (sym c.as_slice-read.ensures.value))
     (c.in-Ok-texts_cell.ensures.asked words (g.S.Shelf.told c.args.shelf.now) last.given)
 
 pub returns-in-Err-load_last-clause-refused : goal.returns-in-Err-load_last-clause-refused
