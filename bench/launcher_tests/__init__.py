@@ -4,6 +4,7 @@
     cells        every example and every module of the documents, with what it has to answer
     spreadsheet  `table`, over every example
     pages        `show`: its pages, run by node in the document of browser.js
+    browsing     `show` in headless Chromium (chromium), which bench/show_browser runs
     covers       `trace`, `cover`, and the places on pages, on the cells of traced/ and their traces
     sources      `list --source`, over every example
     histories    the whole history of each example's run, against its lines

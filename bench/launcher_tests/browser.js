@@ -138,6 +138,9 @@ async function main() {
   window.matchMedia = () => new Element("media");
   const names = { console, document, window, Blob, Response, DecompressionStream, TextDecoder, atob };
   const context = vm.createContext({ ...names, location: { hash: process.argv[3] || "" }, history: { replaceState() {} } });
+  context.ResizeObserver = class {
+    observe() {}
+  };
   context.getComputedStyle = () => ({ getPropertyValue: (name) => name.slice(2) });
   const element = document.getElementById;
   context.press = (key, more) => element("scroll").send("keydown", { key, ...more });

@@ -26,10 +26,10 @@ class Signal extends Row {
     for (let k = first; k < past; k++) {
       const at = view.x(this.events[k] + 0.5);
       // Changes within one pixel are one line from top to bottom.
-      if (at - x >= 1 || k === first) {
+      if (Math.floor(at) > Math.floor(x) || k === first) {
         if (value) pen.rect(x, y + 5, at - x, 15, "high");
         pen.horizontal(x, at, level(value), "signal");
-        pen.vertical(at, y + 5, 16, "signal");
+        pen.vertical(Math.floor(at), y + 5, 16, "signal");
         x = at;
       }
       value = this.changes.values[k];
@@ -216,7 +216,7 @@ class Axis extends Row {
       }
       const x = Math.max(pen.view.x(from), pen.view.left);
       const room = Math.min(pen.view.x(end), pen.view.left + pen.view.width) - x - 4;
-      pen.text(name, x + 3, (inside ? high : top) + 7, "muted", room);
+      pen.text(name, x + 3, Math.min((inside ? high : top) + 7, top + height - 6), "ink", room);
     }
   }
 }

@@ -64,6 +64,7 @@ class Page {
     this.canvas.addEventListener("pointerleave", () => this.hover(-1));
     this.texts.onLine = (module, row) => this.chooseLine(module, row);
     window.addEventListener("resize", () => this.resize());
+    new ResizeObserver(() => this.resize()).observe(this.scroll);
     window.addEventListener("hashchange", () => this.follow());
     window.addEventListener("beforeprint", () => this.print(true));
     window.addEventListener("afterprint", () => this.print(false));
@@ -74,13 +75,14 @@ class Page {
 
   resize() {
     const ratio = window.devicePixelRatio || 1;
+    // First the height, since a scroll bar takes some of the width.
+    this.tall.style.height = `${this.picture.height}px`;
     const width = this.scroll.clientWidth;
     const height = Math.min(this.picture.height, this.isPrinted ? MOST_DRAWN : this.scroll.clientHeight);
     this.canvas.width = Math.round(width * ratio);
     this.canvas.height = Math.round(height * ratio);
     this.canvas.style.width = `${width}px`;
     this.canvas.style.height = `${height}px`;
-    this.tall.style.height = `${this.picture.height}px`;
     this.picture.view.width = Math.max(width - GUTTER - MARGIN, 100);
     this.size = { ratio, width, height };
     this.draw();

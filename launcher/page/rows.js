@@ -38,7 +38,9 @@ class Ruler extends Row {
     const step = niceStep(90 / view.scale);
     for (let k = Math.ceil(view.from / step) * step; k <= view.to; k += step) {
       pen.vertical(view.x(k), y + 15, 6, "muted");
-      pen.text(String(k), view.x(k) + 3, y + 10, "muted", 90);
+      const words = k.toLocaleString("en");
+      const most = view.left + view.width + MARGIN - words.length * pen.letter;
+      pen.text(words, Math.min(view.x(k) + 3, most), y + 10, "muted", 90);
     }
   }
 }
@@ -78,8 +80,8 @@ class Lane extends Row {
     // A wait is a thin line: the bar above and below it is taken away.
     pen.bars(this.waits, y + 8, 20, "ground");
     pen.bars(this.waits, y + 16, 4, "wait");
-    pen.bars(this.traps, y + 8, 6, "trap");
-    pen.bars(this.errors, y + 22, 6, "error");
+    pen.bars(this.traps, y + 2, 4, "trap");
+    pen.bars(this.errors, y + 30, 4, "error");
     this.drawStatements(pen, y);
     this.drawMarks(pen, y);
   }
@@ -92,7 +94,8 @@ class Lane extends Row {
     for (let k = first; k < past; k++) {
       const x = view.x(this.starts[k]);
       const wait = this.waits[firstPair(this.waits, this.starts[k])] ?? Infinity;
-      const next = Math.min(k + 1 < this.starts.length ? this.starts[k + 1] : this.run.last(this.task) + 1, wait);
+      const mark = this.marks[below(this.marks, this.starts[k])] ?? Infinity;
+      const next = Math.min(k + 1 < this.starts.length ? this.starts[k + 1] : this.run.last(this.task) + 1, wait, mark);
       pen.vertical(x, y + 6, 24, "ground");
       const left = Math.max(x, view.left);
       const room = Math.min(view.x(next), view.left + view.width) - left - 6;

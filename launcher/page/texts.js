@@ -41,7 +41,15 @@ class Texts {
     const line = this.lines.children[this.row - 1];
     if (!line) return;
     line.classList.add("chosen");
-    line.scrollIntoView({ block: "nearest" });
+    this.reveal(line);
+  }
+
+  // Scrolls the text, and not the page, no more than needed.
+  reveal(line) {
+    const { lines } = this;
+    const past = line.offsetTop + line.offsetHeight;
+    if (line.offsetTop < lines.scrollTop) lines.scrollTop = line.offsetTop;
+    else if (past > lines.scrollTop + lines.clientHeight) lines.scrollTop = past - lines.clientHeight;
   }
 
   click(event) {

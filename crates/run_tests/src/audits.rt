@@ -1,6 +1,7 @@
 //! Audits of printed histories.
 
 use crate::cells::{done_with, outcome_of, printed, refused};
+use outside::MemoryShelf;
 use std::alloc::{AllocError, Global};
 use std::process::Abort;
 use std::test::Fail;
@@ -111,7 +112,8 @@ fn finds(
         Vec::from_slice(alloc, LOCK)?,
     ))?;
     files.push((String::from_str(alloc, "history")?, text))?;
-    let left = done_with(alloc, &["audit", "cell", "history"], files, None)?;
+    let shelf = MemoryShelf::new(files, Vec::new(alloc));
+    let left = done_with(alloc, &["audit", "cell", "history"], shelf, None)?;
     if status == 11 {
         refused(rt, &left, status, line);
     } else {

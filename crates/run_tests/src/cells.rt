@@ -158,21 +158,21 @@ pub(crate) fn outcome_of<W: AsSlice<u8>>(
         String::from_str(alloc, "b.mod")?,
         Vec::from_slice(alloc, modules[1])?,
     ))?;
-    done_with(alloc, words, files, failing_write)
+    done_with(alloc, words, MemoryShelf::new(files, Vec::new(alloc)), failing_write)
 }
 
-/// Does what the words say with these files; the write with this number to the first sink fails.
+/// Does what the words say with the files of a shelf; the write with this number to the first sink fails.
 pub(crate) fn done_with<W: AsSlice<u8>>(
     alloc: Global,
     words: &[W],
-    files: Vec<(String, Vec<u8>)>,
+    shelf: MemoryShelf,
     failing_write: Option<u32>,
 ) -> Result<Outcome, Fail> {
+    let mut shelf = shelf;
     let mut failing = Vec::new(alloc);
     if let Some(number) = failing_write {
         failing.push(number)?;
     }
-    let mut shelf = MemoryShelf::new(files, Vec::new(alloc));
     let mut out = MemorySink::new(alloc, 1000, failing).ok().ok_or("room")?;
     let mut err = MemorySink::new(alloc, 100, Vec::new(alloc))
         .ok()
