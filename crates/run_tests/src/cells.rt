@@ -158,7 +158,12 @@ pub(crate) fn outcome_of<W: AsSlice<u8>>(
         String::from_str(alloc, "b.mod")?,
         Vec::from_slice(alloc, modules[1])?,
     ))?;
-    done_with(alloc, words, MemoryShelf::new(files, Vec::new(alloc)), failing_write)
+    done_with(
+        alloc,
+        words,
+        MemoryShelf::new(files, Vec::new(alloc)),
+        failing_write,
+    )
 }
 
 /// Does what the words say with the files of a shelf; the write with this number to the first sink fails.
