@@ -1,5 +1,5 @@
 -- Angles that are in reach of some axis, and what is read of them.
-use Rattle.std.proofs.Common.{◌≡◌, ℕ, zero, suc, ◌+◌, ◌-◌, Bool, true, false, ◌&&◌, nat_le, nat_lt, ℤ, List, [], ◌∷◌, ◌++◌, length, drop, Option, Some, None, Ok, Err, if◌then◌else◌, refl, ap, arith}
+use Rattle.std.proofs.Common.{◌≡◌, ℕ, ◌+◌, ◌-◌, Bool, true, false, ◌&&◌, nat_le, nat_lt, ℤ, List, [], ◌∷◌, ◌++◌, length, drop, Option, Some, None, Ok, Err, if◌then◌else◌, refl, ap, arith}
 use Rattle.std.specs.Prelude.{pos, negsuc, nat_abs}
 use Rattle.std.specs.List.{list_all}
 use Rattle.std.proofs.lemmas.Bool.{and_parts, and_from, leb-true, le-leb}
@@ -12,7 +12,6 @@ use Rattle.rapid_model.specs.Limits.{is_within}
 use Rattle.rapid_model.specs.ScriptData.{takes_axes}
 use Rattle.rapid_model.specs.declared.script_rule.ScriptRule.TheVariants.{Range}
 use Rattle.rule_checks.specs.Checks.{◌>>=◌, ◌>>◌, must}
-use Rattle.cell_script.specs.declared.arm.Arm.{Arm}
 use Rattle.cell_script.specs.Break.{Read, at_key}
 use Rattle.cell_script.specs.Keys.{list_at}
 use Rattle.cell_script.specs.Parts.{is_angle, angles_in}

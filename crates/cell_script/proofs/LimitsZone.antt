@@ -1,5 +1,5 @@
 -- Each zone that is read is within its limits.
-use Rattle.std.proofs.Common.{◌≡◌, ℕ, zero, suc, ◌+◌, ◌-◌, ◌<◌, ◌≤◌, Bool, true, false, not, ◌&&◌, ◌||◌, nat_le, nat_lt, ℤ, List, [], ◌∷◌, length, map, take, drop, codes, Option, Some, None, is_some, is_none, Ok, ◌==◌, if◌then◌else◌, refl, sym, subst, arith}
+use Rattle.std.proofs.Common.{◌≡◌, ℕ, zero, suc, ◌+◌, ◌-◌, ◌<◌, ◌≤◌, Bool, true, false, not, ◌&&◌, ◌||◌, nat_le, nat_lt, ℤ, List, [], ◌∷◌, length, map, take, drop, codes, Option, Some, None, is_some, is_none, Ok, ◌==◌, if◌then◌else◌, refl, subst, arith}
 use Rattle.std.specs.Prelude.{pos, negsuc, int_lt}
 use Rattle.std.specs.List.{list_all, list_any}
 use Rattle.std.proofs.lemmas.Bool.{and_parts, and_from, eq-eqb, eqb-true, leb-true}

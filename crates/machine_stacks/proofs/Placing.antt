@@ -3,7 +3,7 @@ use Rattle.std.proofs.Common.{◌≡◌, ◌≢◌, ℕ, zero, suc, ◌+◌, ◌
 use Rattle.std.proofs.lemmas.Bool.{ltb-true, ne_eqb}
 use Rattle.std.proofs.lemmas.Bool.Decides.{leb_tells, eqb_tells}
 use Rattle.std.proofs.lemmas.List.{length-take-le, length-drop, length-reverse, reverse-reverse, length-append, length-set, drop-set-lt, drop-set-add, take-set-le, set_past, get_or_append_left}
-use Rattle.std.proofs.lemmas.Option.{slice_get_past}
+use Rattle.std.proofs.lemmas.Option.{get_or_from_slice_get, none-some, slice_get-get_or, slice_get_past, slice_get_within}
 use Rattle.std.proofs.lemmas.Grind.{reverse_onto}
 use Rattle.std.proofs.Math.Seq.{take-set-lt, get_or-append_seam}
 use Rattle.std.specs.Prelude.{is_some}
@@ -243,3 +243,24 @@ pub stands_at : (len : ℕ) (marks : List Mark) (frame at : ℕ) (d : Mark) → 
 stands_at len marks frame at d h k =
     let P : List Mark → Type 0 = λ ms. Stands len (reverse marks) ms frame at d in
     subst P (reverse-reverse marks) (stands len (reverse marks) frame at d h (omega (arith, length-reverse marks)))
+
+-- the innermost frame ends with the values
+
+pub innermost : (len : ℕ) (marks : List Mark) (at : ℕ) (mark : Mark) → IsCut len (bases_of (reverse marks)) → slice_get marks (length marks - 1) ≡ Some mark
+    → (index_in len (reverse marks) (length marks - 1) at ≡ index_behind mark.base len at) × (mark.base ≤ len)
+innermost len marks at mark h there =
+    let frame : ℕ = length marks - 1 in
+    let within : frame < length marks = slice_get_within marks frame mark there in
+    let s : Stands len (reverse marks) marks frame at mark = stands_at len marks frame at mark h within in
+    let own : get_or marks frame mark ≡ mark = get_or_from_slice_get marks frame mark mark there in
+    let none : slice_get marks (frame + 1) ≡ None = slice_get_past marks (frame + 1) (omega arith) in
+    let last : end_of len marks (frame + 1) ≡ len = ap (λ o. option_map_or (λ (m : Mark). m.base) o len) none in
+    let Q : Mark → ℕ → Type 0 = λ m e. (index_in len (reverse marks) frame at ≡ index_behind m.base e at) × (m.base ≤ e) in
+    subst (λ m. Q m len) own (subst (λ e. Q (get_or marks frame mark) e) last s)
+
+pub no_innermost : (len : ℕ) (marks : List Mark) (at : ℕ) → slice_get marks (length marks - 1) ≡ None → index_in len (reverse marks) (length marks - 1) at ≡ None
+no_innermost len [] at none = no_index len (reverse []) 0 at (omega (arith, length-reverse {A = Mark} []))
+no_innermost len (mark ∷ marks) at none =
+    let frame : ℕ = length (mark ∷ marks) - 1 in
+    let there : slice_get (mark ∷ marks) frame ≡ Some (get_or (mark ∷ marks) frame mark) = slice_get-get_or (mark ∷ marks) frame mark (omega arith) in
+    absurd (none-some (get_or (mark ∷ marks) frame mark) (sym none ∙ there))

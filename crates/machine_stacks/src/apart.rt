@@ -24,19 +24,19 @@ pub(crate) fn word_at(words: &[Word], index: usize) -> Option<Word>
 }
 
 /// What lies apart at an index, if anything does.
-pub(crate) fn apart_at(apart: &[Held], index: usize) -> Option<&Held>
+fn apart_at(apart: &[Held], index: usize) -> Option<&Held>
     ensures { option_copied result ≡ slice_get apart.now index }
 {
     apart.get(index)
 }
 
-/// The num of a word and what lies apart for it; none if they are no num.
-pub(crate) fn num_of(word: Word, apart: Option<&Held>) -> Option<Num>
-    ensures { result ≡ as_num (datum_in word (apart_of (option_copied apart.entry))) }
+/// The num of a word, or of what lies apart for it at an index; none if they are no num.
+pub(crate) fn num_of(word: Word, apart: &[Held], index: usize) -> Option<Num>
+    ensures { result ≡ as_num (datum_in word (apart_of (slice_get apart.now index))) }
 {
     match word {
         Word::Num(number) => Some(number),
-        Word::Apart => match apart {
+        Word::Apart => match apart_at(apart, index) {
             Some(held) => held.num(),
             None => None,
         },
@@ -44,13 +44,13 @@ pub(crate) fn num_of(word: Word, apart: Option<&Held>) -> Option<Num>
     }
 }
 
-/// The bool of a word and what lies apart for it; none if they are no bool.
-pub(crate) fn truth_of(word: Word, apart: Option<&Held>) -> Option<bool>
-    ensures { result ≡ as_bool (datum_in word (apart_of (option_copied apart.entry))) }
+/// The bool of a word, or of what lies apart for it at an index; none if they are no bool.
+pub(crate) fn truth_of(word: Word, apart: &[Held], index: usize) -> Option<bool>
+    ensures { result ≡ as_bool (datum_in word (apart_of (slice_get apart.now index))) }
 {
     match word {
         Word::Bool(truth) => Some(truth),
-        Word::Apart => match apart {
+        Word::Apart => match apart_at(apart, index) {
             Some(held) => held.truth(),
             None => None,
         },
@@ -58,13 +58,13 @@ pub(crate) fn truth_of(word: Word, apart: Option<&Held>) -> Option<bool>
     }
 }
 
-/// What the datum of a word and what lies apart for it stand for; none if it is no reference parameter's.
-pub(crate) fn place_of(word: Word, apart: Option<&Held>) -> Option<Lvalue>
-    ensures { result ≡ place_in (datum_in word (apart_of (option_copied apart.entry))) }
+/// What the datum of a word, or what lies apart for it at an index, stands for; none if it is no reference parameter's.
+pub(crate) fn place_of(word: Word, apart: &[Held], index: usize) -> Option<Lvalue>
+    ensures { result ≡ place_in (datum_in word (apart_of (slice_get apart.now index))) }
 {
     match word {
         Word::Num(_) => None,
-        Word::Apart => match apart {
+        Word::Apart => match apart_at(apart, index) {
             Some(held) => held.place(),
             None => None,
         },
@@ -72,13 +72,13 @@ pub(crate) fn place_of(word: Word, apart: Option<&Held>) -> Option<Lvalue>
     }
 }
 
-/// The datum of a word and what lies apart for it.
-pub(crate) fn datum_of(word: Word, apart: Option<&Held>) -> Held
-    ensures { result ≡ datum_in word (apart_of (option_copied apart.entry)) }
+/// The datum of a word, or what lies apart for it at an index.
+pub(crate) fn datum_of(word: Word, apart: &[Held], index: usize) -> Held
+    ensures { result ≡ datum_in word (apart_of (slice_get apart.now index)) }
 {
     match word.held() {
         Some(held) => held,
-        None => match apart {
+        None => match apart_at(apart, index) {
             Some(held) => held.copy(),
             None => Held::of_mark(0),
         },

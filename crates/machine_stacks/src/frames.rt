@@ -1,4 +1,4 @@
-ghost use Rattle.std.specs.Prelude.{◌≡◌, ◌+◌, ◌<◌, ◌≤◌, [], ◌∷◌, is_some, length, reverse, take, drop, slice_get, IfOk};
+ghost use Rattle.std.specs.Prelude.{◌≡◌, ◌+◌, ◌-◌, ◌<◌, ◌≤◌, [], ◌∷◌, is_some, length, reverse, take, drop, slice_get, IfOk};
 ghost use Rattle.std.specs.Option.{option_and_then};
 ghost use Rattle.rapid_model.specs.declared.value.Value.TheVariants as values;
 ghost use Rattle.typed_trees.specs.declared.datum.Datum.TheVariants.{Plain};
@@ -9,7 +9,7 @@ ghost use Rattle.machine_stacks.specs.Starts.{frame_from};
 
 use crate::first_values::append_firsts;
 use crate::held::Held;
-use crate::indexes::{datum_at, index_at, num_at, place_at, write_at, write_num_at};
+use crate::indexes::{datum_at, index_at, innermost_at, num_at, place_at, write_at, write_num_at};
 use crate::mark::Mark;
 use crate::operands::Operands;
 use crate::run_start::RunStart;
@@ -141,6 +141,14 @@ impl Frames {
         num_at(&self.values, index)
     }
 
+    /// The num of the innermost frame at an index; none if there is none.
+    pub fn own_num(&self, at: usize) -> Option<Num>
+        ensures { let innermost = length self.now.frames - 1 in result ≡ option_and_then as_num (option_and_then (λ f. slice_get f.values at) (frame_at self.now.frames innermost)) }
+    {
+        let index = innermost_at(self.values.len(), &self.marks, at);
+        num_at(&self.values, index)
+    }
+
     /// What a value of a frame stands for, by the number of frames below it and its index in the frame; none if it is
     /// not there or stands for nothing.
     pub fn place(&self, frame: usize, at: usize) -> Option<Lvalue>
@@ -157,6 +165,14 @@ impl Frames {
     {
         let index = index_at(self.values.len(), &self.marks, frame, at);
         write_at(&mut self.values, index, datum);
+    }
+
+    /// Replaces the value of the innermost frame at an index by a num. Changes nothing if there is none.
+    pub fn put_own_num(&mut self, at: usize, number: Num)
+        ensures { let innermost = length self.old.frames - 1 in self.new ≡ record self.old { frames = put_in_frame self.old.frames innermost at (Plain (values.Num number)) (frame_at self.old.frames innermost) } }
+    {
+        let index = innermost_at(self.values.len(), &self.marks, at);
+        write_num_at(&mut self.values, index, number);
     }
 
     /// Replaces a value of a frame by a num, by the number of frames below it and its index in the frame. Changes

@@ -1,4 +1,4 @@
-ghost use Rattle.std.specs.Prelude.{◌≡◌, ◌<◌, length, reverse, slice_get, IfSome};
+ghost use Rattle.std.specs.Prelude.{◌≡◌, ◌-◌, ◌<◌, length, reverse, slice_get, IfSome};
 ghost use Rattle.std.specs.Option.{option_and_then};
 ghost use Rattle.rapid_model.specs.declared.value.Value.TheVariants.{Num as OfNum};
 ghost use Rattle.typed_trees.specs.declared.datum.Datum.TheVariants.{Plain};
@@ -26,6 +26,20 @@ pub(crate) fn index_at(values: usize, marks: &[Mark], frame: usize, at: usize) -
     let end = end_at(values, marks, frame + 1);
     if at < end - base {
         Some(base + at)
+    } else {
+        None
+    }
+}
+
+/// The index among the values of all frames of a value of the innermost one, by its index in the frame; none if there
+/// is none.
+pub(crate) fn innermost_at(values: usize, marks: &[Mark], at: usize) -> Option<usize>
+    requires { IsCut values (bases_of (reverse marks.now)) }
+    ensures { result ≡ index_in values (reverse marks.now) (length marks.now - 1) at }
+{
+    let mark = marks.last()?;
+    if at < values - mark.base {
+        Some(mark.base + at)
     } else {
         None
     }

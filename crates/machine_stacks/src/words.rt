@@ -6,7 +6,7 @@ ghost use Rattle.rapid_meaning.specs.Places.{place_in};
 ghost use Rattle.machine_stacks.specs.Forms.{as_bool, as_num};
 ghost use Rattle.machine_stacks.specs.Words.{datum_in, in_word};
 
-use crate::apart::{apart_at, datum_of, num_of, place_of, put_apart, truth_of, word_at};
+use crate::apart::{datum_of, num_of, place_of, put_apart, truth_of, word_at};
 use crate::held::Held;
 use crate::word::Word;
 use rapid_model::Value;
@@ -58,7 +58,7 @@ impl Words {
         ensures { result ≡ option_and_then as_num (slice_get self.now.items index) }
     {
         match word_at(&self.words, index) {
-            Some(word) => num_of(word, apart_at(&self.apart, index)),
+            Some(word) => num_of(word, &self.apart, index),
             None => None,
         }
     }
@@ -68,7 +68,7 @@ impl Words {
         ensures { result ≡ option_and_then as_bool (slice_get self.now.items index) }
     {
         match word_at(&self.words, index) {
-            Some(word) => truth_of(word, apart_at(&self.apart, index)),
+            Some(word) => truth_of(word, &self.apart, index),
             None => None,
         }
     }
@@ -78,7 +78,7 @@ impl Words {
         ensures { result ≡ option_and_then place_in (slice_get self.now.items index) }
     {
         match word_at(&self.words, index) {
-            Some(word) => place_of(word, apart_at(&self.apart, index)),
+            Some(word) => place_of(word, &self.apart, index),
             None => None,
         }
     }
@@ -88,7 +88,7 @@ impl Words {
         ensures { result ≡ slice_get self.now.items index }
     {
         match word_at(&self.words, index) {
-            Some(word) => Some(datum_of(word, apart_at(&self.apart, index))),
+            Some(word) => Some(datum_of(word, &self.apart, index)),
             None => None,
         }
     }

@@ -1,6 +1,6 @@
 -- The data of a FOR.
-use Rattle.std.proofs.Common.{◌≡◌, refl, sym, ap, ◌∙◌, ℕ, suc, ◌+◌, ℤ, length, Bool, true, false, Option, None, Some, if◌then◌else◌}
-use Rattle.std.specs.Prelude.{is_some}
+use Rattle.std.proofs.Common.{◌≡◌, refl, sym, ap, subst, ◌∙◌, arith, ℕ, zero, suc, ◌+◌, ◌-◌, ℤ, length, Bool, Option, None, Some, if◌then◌else◌}
+use Rattle.std.specs.Prelude.{IsSome}
 use Rattle.std.specs.Option.{option_and_then}
 use Rattle.rapid_num.specs.Arithmetic.{sum_of}
 use Rattle.rapid_model.specs.declared.part_name.PartName.TheVariants as parts
@@ -23,6 +23,7 @@ use Rattle.stack_code.specs.Confs.{Conf}
 use Rattle.stack_code.specs.Steps.{Here, act, counter_at, jumps, set_counter_at, stepped, to_next}
 use Rattle.stack_code.specs.declared.op.Op.TheVariants as ops
 use Rattle.task_steps.specs.Alike.{Alike}
+use Rattle.task_steps.specs.Own.{own_num_in}
 use Rattle.task_steps.proofs.Along.{alike_is, alike_then}
 use Rattle.task_steps.proofs.Readings.{nothing_at, own_missing, own_there, reads_now, writes_now}
 
@@ -54,7 +55,7 @@ counter_at_place code d k at o next place there =
     (alike_then code _ _ _ d d d (reads_now code (λ (e : Data). reading_datum next (datum_at (roots.Frame k at) e)) d) (alike_is code _ _ d (ap (reading_datum next) there))))
 
 -- there is no frame
-pub counter_missing : (code : CodeData) (d : Data) (at : ℕ) (next : ℤ → Doing Conf) → length d.frames ≡ 0 → Alike code (counter_at at >>= next) d Misfit d
+counter_missing : (code : CodeData) (d : Data) (at : ℕ) (next : ℤ → Doing Conf) → length d.frames ≡ 0 → Alike code (counter_at at >>= next) d Misfit d
 unfolding after
 counter_missing code d at next none = counter_at_place code d 0 at None next (own_missing d.frames at none) (nothing_at d at none)
 
@@ -74,7 +75,7 @@ counter_there code d k at x o next some there is =
     (ap (λ (y : Option Datum). or_misfit y >>= value_in >>= num_in >>= next) (whole_in x)
     ∙ ap (λ (m : Doing ℤ). m >>= next) (ap (λ (m : Doing Value). m >>= num_in) (after_gives x value_in) ∙ is)))
 
-pub counter_num : (code : CodeData) (d : Data) (k at : ℕ) (o : Option ℤ) (next : ℤ → Doing Conf) → length d.frames ≡ suc k → o ≡ option_and_then as_num (datum_at (roots.Frame k at) d)
+counter_num : (code : CodeData) (d : Data) (k at : ℕ) (o : Option ℤ) (next : ℤ → Doing Conf) → length d.frames ≡ suc k → o ≡ option_and_then as_num (datum_at (roots.Frame k at) d)
     → Alike code (counter_at at >>= next) d (or_misfit o >>= next) d
 unfolding after
 counter_num code d k at o next some is = by (datum_at (roots.Frame k at) d) refl is
@@ -82,6 +83,20 @@ counter_num code d k at o next some is = by (datum_at (roots.Frame k at) d) refl
     by : (x : Option Datum) → datum_at (roots.Frame k at) d ≡ x → o ≡ option_and_then as_num x → Alike code (counter_at at >>= next) d (or_misfit o >>= next) d
     by None there is = rw is (counter_none code d k at next some there)
     by (Some x) there is = counter_there code d k at x o next some there (held_is x ∙ ap or_misfit (sym is))
+
+-- what the innermost frame has, if there is one
+pub counter_own : (code : CodeData) (d : Data) (at : ℕ) (o : Option ℤ) (next : ℤ → Doing Conf) → o ≡ own_num_in at d → Alike code (counter_at at >>= next) d (or_misfit o >>= next) d
+unfolding after
+counter_own code d at o next is = by (length d.frames) refl
+  where
+    place : (k : ℕ) → length d.frames - 1 ≡ k → o ≡ option_and_then as_num (datum_at (roots.Frame k at) d)
+    place k last = is ∙ ap (λ (j : ℕ). option_and_then as_num (datum_at (roots.Frame j at) d)) last
+
+    by : (n : ℕ) → length d.frames ≡ n → Alike code (counter_at at >>= next) d (or_misfit o >>= next) d
+    by zero none =
+        let missing : o ≡ None = place 0 (omega (arith, none)) ∙ ap (λ (x : Option Datum). option_and_then as_num x) (nothing_at d at none) in
+        rw missing (counter_missing code d at next none)
+    by (suc k) some = counter_num code d k at o next some (place k (omega (arith, some)))
 
 -- a counter that was read
 pub counted_some : (code : CodeData) (d : Data) (at : ℕ) (o : Option ℤ) (v : ℤ) (next : ℤ → Doing Conf)
@@ -168,18 +183,12 @@ step_all code h d at to o p v w first is second its =
     alike_then code _ _ _ d d d (counted_some code d at o v (λ variable. counter_at (at + 2) >>= λ step. stepped h at to (sum_of variable step)) first is)
     (counted_some code d (at + 2) p w (λ step. stepped h at to (sum_of v step)) second its)
 
--- a num over a value, and over a datum that is none
+-- a num over a value
 put_over : (x : Datum) (v : Value) (n : ℤ) → as_value x ≡ Some v → put_in parts.Whole (datums.Plain (values.Num n)) x ≡ Some (datums.Plain (values.Num n))
 put_over (datums.Plain w) v n e = refl
 put_over (datums.Mark m) v n e = cc
 put_over (datums.Shape s) v n e = cc
 put_over (datums.Place p) v n e = cc
-
-put_over-none : (x : Datum) (n : ℤ) → as_value x ≡ None → put_in parts.Whole (datums.Plain (values.Num n)) x ≡ None
-put_over-none (datums.Plain w) n e = cc
-put_over-none (datums.Mark m) n e = refl
-put_over-none (datums.Shape s) n e = refl
-put_over-none (datums.Place p) n e = refl
 
 -- the variable is written
 abbrev writing : ℤ → Doing Conf → Lvalue → Doing Conf
@@ -199,22 +208,9 @@ set_at_place code d k at n o m place there =
     (alike_then code _ _ _ d d d (alike_is code _ _ d (ap (writing n m) place))
     (alike_then code _ _ _ d d d (reads_now code (λ (e : Data). writing_datum k at e m (put_whole n (datum_at (roots.Frame k at) e))) d) (alike_is code _ _ d (ap (writing_datum k at d m) there))))
 
-pub set_missing : (code : CodeData) (d : Data) (at : ℕ) (n : ℤ) (m : Doing Conf) → length d.frames ≡ 0 → Alike code (set_counter_at at n >> m) d Misfit d
-unfolding after
-set_missing code d at n m none = set_at_place code d 0 at n None m (own_missing d.frames at none) (ap (put_whole n) (nothing_at d at none))
-
 set_reads : (code : CodeData) (d : Data) (k at : ℕ) (n : ℤ) (o : Option Datum) (m : Doing Conf) → length d.frames ≡ suc k → put_whole n (datum_at (roots.Frame k at) d) ≡ o
     → Alike code (set_counter_at at n >> m) d (writing_datum k at d m o) d
 set_reads code d k at n o m some there = set_at_place code d k at n o m (own_there d.frames k at some) there
-
-set_none : (code : CodeData) (d : Data) (k at : ℕ) (n : ℤ) (m : Doing Conf) → length d.frames ≡ suc k → datum_at (roots.Frame k at) d ≡ None → Alike code (set_counter_at at n >> m) d Misfit d
-unfolding after
-set_none code d k at n m some none = set_reads code d k at n None m some (ap (put_whole n) none)
-
-set_lacks : (code : CodeData) (d : Data) (k at : ℕ) (n : ℤ) (x : Datum) (m : Doing Conf) → length d.frames ≡ suc k → datum_at (roots.Frame k at) d ≡ Some x
-    → put_in parts.Whole (datums.Plain (values.Num n)) x ≡ None → Alike code (set_counter_at at n >> m) d Misfit d
-unfolding after
-set_lacks code d k at n x m some there none = set_reads code d k at n None m some (ap (put_whole n) there ∙ none)
 
 set_there : (code : CodeData) (d : Data) (k at : ℕ) (n : ℤ) (x y : Datum) (m : Doing Conf) → length d.frames ≡ suc k → datum_at (roots.Frame k at) d ≡ Some x
     → put_in parts.Whole (datums.Plain (values.Num n)) x ≡ Some y → Alike code (set_counter_at at n >> m) d m (put_at (roots.Frame k at) y d)
@@ -223,25 +219,29 @@ set_there code d k at n x y m some there put =
     alike_then code _ _ _ d d (put_at (roots.Frame k at) y d) (set_reads code d k at n (Some y) m some (ap (put_whole n) there ∙ put))
     (writes_now code (put_at (roots.Frame k at) y d) m d)
 
--- over a value, and over what is none
-pub set_valued : (code : CodeData) (d : Data) (k at : ℕ) (n : ℤ) (m : Doing Conf) (b : Bool) → length d.frames ≡ suc k → b ≡ is_some (option_and_then as_value (datum_at (roots.Frame k at) d)) → b ≡ true
+-- over a num
+set_num : (code : CodeData) (d : Data) (k at : ℕ) (n : ℤ) (m : Doing Conf) → length d.frames ≡ suc k → IsSome (option_and_then as_num (datum_at (roots.Frame k at) d))
     → Alike code (set_counter_at at n >> m) d m (put_at (roots.Frame k at) (datums.Plain (values.Num n)) d)
-set_valued code d k at n m b some is so = by (datum_at (roots.Frame k at) d) refl is
+set_num code d k at n m some is = by (datum_at (roots.Frame k at) d) refl is
   where
-    by : (o : Option Datum) → datum_at (roots.Frame k at) d ≡ o → b ≡ is_some (option_and_then as_value o) → Alike code (set_counter_at at n >> m) d m (put_at (roots.Frame k at) (datums.Plain (values.Num n)) d)
+    by : (o : Option Datum) → datum_at (roots.Frame k at) d ≡ o → IsSome (option_and_then as_num o) → Alike code (set_counter_at at n >> m) d m (put_at (roots.Frame k at) (datums.Plain (values.Num n)) d)
     by None there is = absurd cc
     by (Some (datums.Plain v)) there is = set_there code d k at n (datums.Plain v) (datums.Plain (values.Num n)) m some there (put_over (datums.Plain v) v n refl)
     by (Some (datums.Mark j)) there is = absurd cc
     by (Some (datums.Shape s)) there is = absurd cc
     by (Some (datums.Place p)) there is = absurd cc
 
-pub set_unvalued : (code : CodeData) (d : Data) (k at : ℕ) (n : ℤ) (m : Doing Conf) (b : Bool) → length d.frames ≡ suc k → b ≡ is_some (option_and_then as_value (datum_at (roots.Frame k at) d)) → b ≡ false
-    → Alike code (set_counter_at at n >> m) d Misfit d
-set_unvalued code d k at n m b some is so = by (datum_at (roots.Frame k at) d) refl is
+-- over the num of the innermost frame
+pub set_own : (code : CodeData) (d : Data) (at : ℕ) (n : ℤ) (m : Doing Conf) → IsSome (own_num_in at d)
+    → Alike code (set_counter_at at n >> m) d m (put_at (roots.Frame (length d.frames - 1) at) (datums.Plain (values.Num n)) d)
+set_own code d at n m there = by (length d.frames) refl
   where
-    by : (o : Option Datum) → datum_at (roots.Frame k at) d ≡ o → b ≡ is_some (option_and_then as_value o) → Alike code (set_counter_at at n >> m) d Misfit d
-    by None there is = set_none code d k at n m some there
-    by (Some (datums.Plain v)) there is = absurd cc
-    by (Some (datums.Mark j)) there is = set_lacks code d k at n (datums.Mark j) m some there (put_over-none (datums.Mark j) n refl)
-    by (Some (datums.Shape s)) there is = set_lacks code d k at n (datums.Shape s) m some there (put_over-none (datums.Shape s) n refl)
-    by (Some (datums.Place p)) there is = set_lacks code d k at n (datums.Place p) m some there (put_over-none (datums.Place p) n refl)
+    by : (k : ℕ) → length d.frames ≡ k → Alike code (set_counter_at at n >> m) d m (put_at (roots.Frame (length d.frames - 1) at) (datums.Plain (values.Num n)) d)
+    by zero none =
+        let last : length d.frames - 1 ≡ 0 = omega (arith, none) in
+        let missing : own_num_in at d ≡ None = ap (λ (j : ℕ). option_and_then as_num (datum_at (roots.Frame j at) d)) last ∙ ap (λ (x : Option Datum). option_and_then as_num x) (nothing_at d at none) in
+        absurd (cc (missing, there))
+    by (suc k) some =
+        let last : k ≡ length d.frames - 1 = omega (arith, some) in
+        let P : ℕ → Type 0 = λ j. IsSome (option_and_then as_num (datum_at (roots.Frame j at) d)) → Alike code (set_counter_at at n >> m) d m (put_at (roots.Frame j at) (datums.Plain (values.Num n)) d) in
+        subst P last (set_num code d k at n m some) there

@@ -1,5 +1,5 @@
 -- What is there, by its form.
-use Rattle.std.proofs.Common.{◌≡◌, ◌≢◌, refl, sym, ap, ℕ, ◌<◌, ℤ, List, [], ◌∷◌, drop, Bool, true, false, Option, None, Some, slice_get}
+use Rattle.std.proofs.Common.{◌≡◌, ◌≢◌, refl, ap, ℕ, ◌<◌, ℤ, List, [], ◌∷◌, drop, Bool, true, false, Option, None, Some, slice_get}
 use Rattle.std.specs.Prelude.{IfSome, is_some}
 use Rattle.std.specs.Option.{option_and_then, option_map}
 use Rattle.rapid_model.specs.declared.value.Value.TheVariants as values
@@ -11,7 +11,7 @@ use Rattle.rapid_meaning.specs.Doings.{Doing, after}
 use Rattle.rapid_meaning.specs.Places.{place_in}
 use Rattle.stack_code.specs.Confs.{Conf}
 use Rattle.stack_code.specs.Operands.{on_place, on_truth}
-use Rattle.machine_stacks.specs.Forms.{as_bool, as_num, as_value}
+use Rattle.machine_stacks.specs.Forms.{as_bool, as_num}
 use Rattle.task_steps.specs.Alike.{popped}
 use Rattle.task_steps.proofs.Elements.{at_few}
 
@@ -50,14 +50,6 @@ pub place_popped : (xs : List Datum) (r : Option Lvalue) (next : Lvalue → List
 place_popped [] r next e = rw e refl
 place_popped (datums.Place p ∷ rest) r next e = rw e refl
 place_popped (x ∷ rest) r next e = rw e refl
-
--- a num is a value
-pub num_is_value : (o : Option Datum) → true ≡ is_some (option_and_then as_num o) → true ≡ is_some (option_and_then as_value o)
-num_is_value None e = cc
-num_is_value (Some (datums.Plain v)) e = refl
-num_is_value (Some (datums.Mark n)) e = cc
-num_is_value (Some (datums.Shape s)) e = cc
-num_is_value (Some (datums.Place p)) e = cc
 
 -- an element is there, or not
 

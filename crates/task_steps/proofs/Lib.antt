@@ -7,6 +7,7 @@ pub mod Counts
 pub mod Calls
 pub mod Counters
 pub mod Loads
+pub mod Owning
 pub mod Popped
 pub mod Looks
 pub mod Readings

@@ -1,10 +1,6 @@
 //! FOR (RAPID Kernel, FOR). Its variable, last value and step are three data of the frame.
 
-ghost use Rattle.std.specs.Prelude.{◌≡◌, ℤ, Option, is_some, slice_get};
-ghost use Rattle.std.specs.Option.{option_and_then};
-ghost use Rattle.typed_trees.specs.declared.datum.Datum.{Datum};
-ghost use Rattle.machine_stacks.specs.Forms.{as_value};
-ghost use Rattle.rapid_meaning.specs.Data.{frame_at};
+ghost use Rattle.std.specs.Prelude.{◌≡◌, ℤ, IsSome, slice_get};
 ghost use Rattle.rapid_meaning.specs.Doings.{Doing, Raises, after, or_misfit};
 ghost use Rattle.rapid_meaning.specs.Loops.{has_passed};
 ghost use Rattle.stack_code.specs.CodeData.{CodeData};
@@ -13,6 +9,7 @@ ghost use Rattle.stack_code.specs.Steps.{act, counter_at, jumps, past_turn, set_
 ghost use Rattle.stack_code.specs.declared.op.Op.TheVariants as ops;
 ghost use Rattle.task_steps.specs.Alike.{Alike, Goes};
 ghost use Rattle.task_steps.specs.Doing.{gone, here_of};
+ghost use Rattle.task_steps.specs.Own.{own_num_in};
 ghost use Rattle.task_steps.specs.Seen.{Seen};
 
 use crate::steps::way::Way;
@@ -45,13 +42,10 @@ fn past_turn(code: &Code, to: u32) -> Option<Way>
 impl Task {
     /// One of the data of a FOR, if it is there and a num.
     fn counter(&self, at: usize) -> Option<Num>
-        ensures { (code : CodeData) (next : ℤ → Doing Conf) → Alike code (after (counter_at at) next Raises) self.now.data' (after (or_misfit result) next Raises) self.now.data' }
+        ensures reads { (code : CodeData) (next : ℤ → Doing Conf) → Alike code (after (counter_at at) next Raises) self.now.data' (after (or_misfit result) next Raises) self.now.data' }
+        ensures num { result ≡ own_num_in at self.now.data' }
     {
-        let count = self.frames.count();
-        if count == 0 {
-            return None;
-        }
-        self.frames.num(count - 1, at)
+        self.frames.own_num(at)
     }
 
     /// Tests whether the FOR whose variable is there has passed its last value, and then jumps.
@@ -83,6 +77,7 @@ impl Task {
 
     /// Advances the variable of a FOR to a num that is in range, or takes its Turn as passed.
     fn counted(&mut self, code: &Code, at: u32, to: u32, next: Option<Num>) -> Option<Way>
+        requires { IsSome (own_num_in at self.old.data') }
         ensures phase { self.new.phase ≡ self.old.phase }
         ensures room { self.new.room ≡ self.old.room }
         ensures conf { self.new.conf ≡ self.old.conf }
@@ -94,34 +89,15 @@ impl Task {
         }
     }
 
-    /// Sets the variable of a FOR, and jumps.
+    /// Sets the variable of a FOR, which is a num, and jumps.
     fn set_counter(&mut self, at: u32, to: u32, next: Num) -> Option<Way>
+        requires { IsSome (own_num_in at self.old.data') }
         ensures phase { self.new.phase ≡ self.old.phase }
         ensures room { self.new.room ≡ self.old.room }
         ensures conf { self.new.conf ≡ self.old.conf }
         ensures turns { (code : CodeData) → Goes code (after (set_counter_at at next) (λ _. jumps (here_of code self.old.conf) to self.old.conf.stack) Raises) self.old.data' result self.new }
     {
-        let count = self.frames.count();
-        if count == 0 {
-            return None;
-        }
-        if !self.has_value(count - 1, at as usize) {
-            return None;
-        }
-        self.frames.put_num(count - 1, at as usize, next);
+        self.frames.put_own_num(at as usize, next);
         Some(Way::Jump(to))
-    }
-
-    /// Whether a value is at a place of a frame.
-    fn has_value(&self, frame: usize, at: usize) -> bool
-        ensures { result ≡ is_some (option_and_then as_value (option_and_then (λ f. slice_get f.values at) (frame_at self.now.data'.frames frame))) }
-    {
-        if self.frames.num(frame, at).is_some() {
-            return true;
-        }
-        match self.frames.get(frame, at) {
-            Some(held) => held.value().is_some(),
-            None => false,
-        }
     }
 }

@@ -31,7 +31,7 @@ impl Task {
     {
         let code = loaded.code();
         match op {
-            Op::Push(datum) => self.put_value(code, datum.kept_value()),
+            Op::Push(datum) => self.put_kept(code, datum),
             Op::Slot(slot) => self.put_place(code, whole_at(Root::Slot(*slot))),
             Op::Local(at) => self.local(code, *at),
             Op::Load => self.load(code),
@@ -42,7 +42,7 @@ impl Task {
             Op::JumpFalse(to) => self.jump_unless(*to),
             Op::Turn(at, to) => self.turn(*at, *to),
             Op::Step(at, to) => self.step_on(code, *at, *to),
-            Op::Look => self.look(code),
+            Op::Look => self.look(loaded),
             _ => self.perform_other(loaded, op),
         }
     }

@@ -17,6 +17,7 @@ use crate::steps::way::Way;
 use crate::task::Task;
 use machine_stacks::Held;
 use rapid_model::{Fate, Request, Value};
+use stack_code::Pushed;
 use task_code::Code;
 use typed_trees::Lvalue;
 
@@ -130,6 +131,16 @@ impl Task {
     {
         self.push_value(value);
         Some(Way::Next)
+    }
+
+    /// Pushes the value that an operation keeps, and goes on to the next operation.
+    pub(crate) fn put_kept(&mut self, code: &Code, kept: &Pushed) -> Option<Way>
+        requires room { self.old.room ≡ room_of code.now }
+        requires runs { Runs code.now (to_next (here_of code.now self.old.conf) (kept.now ∷ self.old.conf.stack)) self.old.data' }
+        ensures next { result ≡ Some ways.Next }
+        ensures put { self.new ≡ with_stack (kept.now ∷ self.old.conf.stack) self.old }
+    {
+        self.put_value(code, kept.kept_value())
     }
 
     /// Pushes what a reference parameter stands for, and goes on to the next operation.

@@ -12,13 +12,12 @@ ghost use Rattle.task_steps.specs.Phases as phases;
 ghost use Rattle.task_steps.specs.declared.steps.way.Way.TheVariants as ways;
 
 use crate::requests::pending::Pending;
-use crate::routines::living::keep_code;
+use crate::routines::loaded::LoadedCode;
 use crate::steps::done::Done;
 use crate::steps::stage::Stage;
 use crate::steps::way::Way;
 use crate::task::Task;
 use rapid_model::Request;
-use task_code::{Code, owner_of};
 
 /// Makes the request a Look. Writes nothing if the last request was one too.
 fn ask_look(asked: &mut Request)
@@ -42,16 +41,14 @@ fn await_look(then: &mut Pending)
 
 impl Task {
     /// Asks whether the statement may begin, and keeps its position.
-    pub(crate) fn look(&mut self, code: &Code) -> Option<Way>
-        requires within { self.old.conf.pc < length code.now.ops }
+    pub(crate) fn look(&mut self, loaded: &LoadedCode) -> Option<Way>
+        requires within { self.old.conf.pc < length loaded.now.ops }
         ensures room { self.new.room ≡ self.old.room }
         ensures stay { result ≡ Some ways.Stay }
         ensures begun { self.new.phase ≢ phases.New }
-        ensures goes { Goes code.now (looks (here_of code.now self.old.conf)) self.old.data' result self.new }
+        ensures goes { Goes loaded.now (looks (here_of loaded.now self.old.conf)) self.old.data' result self.new }
     {
-        keep_code(code);
-        let owner = owner_of(code.marks(), self.pc);
-        self.place = Some(owner.at);
+        self.place = Some(loaded.owner(self.pc).at);
         ask_look(&mut self.asked);
         await_look(&mut self.then);
         self.stage = Stage::Asking;

@@ -1,21 +1,26 @@
 ghost use Rattle.std.specs.Prelude.{◌≡◌, ◌-◌, ◌+◌, ◌<◌, ◌≤◌, ◌∷◌, length, reverse, take, drop, slice_get, Some, IfOk, IfErr};
 ghost use Rattle.rapid_meaning.specs.Data.{values_in};
 ghost use Rattle.stack_code.specs.Entering.{frame_in};
+ghost use Rattle.stack_code.specs.Placed.{owner_at};
 
 use crate::operands::first_counts::{copied, count_from};
+use crate::routines::living::keep_code;
+use crate::routines::owners::owner_numbers;
 use machine_stacks::{Frames, Operands, RunStart, starts_of};
-use stack_code::{FirstRun, RoutineRow};
+use stack_code::{FirstRun, Owner, RoutineRow};
 use std::alloc::Global;
 use std::marker::Model;
 use task_code::Code;
 
-/// Code that a task can run, with an index of where each routine's first values begin among the runs: a call takes time
-/// proportional to the values of its routine. Contracts see the code.
+/// Code that a task can run, with an index of where each routine's first values begin among the runs, so that a call
+/// takes time proportional to the values of its routine, and with the number of each operation's owner, so that a Look
+/// searches nothing. Contracts see the code.
 #[derive(Drop)]
 pub struct LoadedCode {
     pub(crate) code: Code,
     pub(crate) runs: Vec<FirstRun>,
     pub(crate) starts: Vec<RunStart>,
+    pub(crate) owners: Vec<u32>,
 }
 
 impl Model for LoadedCode {
@@ -26,7 +31,7 @@ impl Model for LoadedCode {
 
     ghost view = { λ l. l.code };
 
-    ghost invariant = { λ l. IsLoaded l.code l.runs.items l.starts.items };
+    ghost invariant = { λ l. IsLoaded l.code l.runs.items l.starts.items l.owners.items };
 }
 
 impl LoadedCode {
@@ -41,7 +46,16 @@ impl LoadedCode {
         let Ok(starts) = starts_of(alloc, code.routines(), &runs) else {
             return Err(code);
         };
-        Ok(LoadedCode { code, runs, starts })
+        keep_code(&code);
+        let Ok(owners) = owner_numbers(alloc, &code.marks().owners, code.ops().len() as u32) else {
+            return Err(code);
+        };
+        Ok(LoadedCode {
+            code,
+            runs,
+            starts,
+            owners,
+        })
     }
 
     /// The code.
@@ -56,6 +70,15 @@ impl LoadedCode {
         ensures { result ≡ self }
     {
         self.code
+    }
+
+    /// The owner of an operation.
+    pub(crate) fn owner(&self, pc: u32) -> &Owner
+        requires { pc < length self.now.ops }
+        ensures { owner_at self.now.owners pc ≡ Some result.now }
+    {
+        let number = self.owners[pc as usize];
+        &self.code.marks().owners[number as usize]
     }
 
     /// The number of first values that a routine has after its arguments.

@@ -5,6 +5,7 @@ pub(crate) mod failed;
 pub(crate) mod left;
 pub(crate) mod living;
 pub(crate) mod loaded;
+pub(crate) mod owners;
 pub(crate) mod raising;
 pub(crate) mod returning;
 pub(crate) mod row;

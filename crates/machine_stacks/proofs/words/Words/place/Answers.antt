@@ -11,7 +11,7 @@ pub returns-in-Some : goal.returns-in-Some
 returns-in-Some c =
     let w = c.self.inside in
     let there : slice_get w.words.items c.args.index ≡ Some c.in-Some.word = ap (λ (ws : List Word). slice_get ws c.args.index) (sym c.deref.ensures.value) ∙ sym c.in-Some.ensures in
-    let near = c.apart_at.ensures ∙ ap (λ (xs : List Datum). slice_get xs c.args.index) c.deref-in-Some.ensures.value in
+    let near = ap (λ (xs : List Datum). slice_get xs c.args.index) c.deref-in-Some.ensures.value in
     found place_in w.words.items w.apart.items c.args.index c.in-Some.word c.place_of.result there (c.place_of.ensures ∙ ap (λ (o : Option Datum). place_in (datum_in c.in-Some.word (apart_of o))) near)
     ∙ ap (λ (row : DataRow). option_and_then place_in (slice_get row.items c.args.index)) c.self.view_is
 

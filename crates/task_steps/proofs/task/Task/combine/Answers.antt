@@ -1,4 +1,4 @@
-use Rattle.std.proofs.Common.{◌≡◌, ap, sym, Some}
+use Rattle.std.proofs.Common.{ap, sym}
 use Rattle.std.specs.Option.{option_and_then}
 use Rattle.machine_stacks.specs.Forms.{as_value}
 use Rattle.rapid_meaning.specs.Doings.{after}

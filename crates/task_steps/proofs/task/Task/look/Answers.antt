@@ -5,4 +5,4 @@ use Rattle.task_steps.proofs.task.Task.look.Goals as goal
 pub returns-clause-goes : goal.returns-clause-goes
 returns-clause-goes c =
     let t = seen_task c.self.inside in
-    rw (← c.self.view_is, c.ask_look.ensures, c.await_look.ensures) (look_asks c.args.code.now t.conf t.data' c.owner_of-owner.result.now (rw c.marks.ensures.owners at c.owner_of-owner.ensures.found))
+    rw (← c.self.view_is, c.ask_look.ensures, c.await_look.ensures) (look_asks c.args.loaded.now t.conf t.data' c.owner.result.now c.owner.ensures)

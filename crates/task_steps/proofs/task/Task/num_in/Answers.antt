@@ -1,4 +1,4 @@
-use Rattle.std.proofs.Common.{◌≡◌, ap, ◌∙◌}
+use Rattle.std.proofs.Common.{ap, ◌∙◌}
 use Rattle.std.specs.Option.{option_and_then}
 use Rattle.typed_trees.specs.declared.datum.Root.TheVariants as roots
 use Rattle.machine_stacks.specs.Forms.{as_num}

@@ -1,4 +1,4 @@
-use Rattle.std.proofs.Common.{◌≡◌, ap, ◌∙◌, ◌+◌, arith, slice_get}
+use Rattle.std.proofs.Common.{ap, ◌∙◌, ◌+◌, arith, slice_get}
 use Rattle.std.specs.Prelude.{is_some}
 use Rattle.std.specs.Option.{option_and_then}
 use Rattle.rapid_meaning.specs.Data.{frame_at}

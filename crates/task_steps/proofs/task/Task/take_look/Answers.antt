@@ -1,4 +1,4 @@
-use Rattle.std.proofs.Common.{◌≡◌, sym, subst}
+use Rattle.std.proofs.Common.{sym, subst}
 use Rattle.rapid_model.specs.declared.answer.Answer.TheVariants as answers
 use Rattle.task_code.specs.Leads.{Runs}
 use Rattle.stack_code.specs.CodeData.{CodeData}
