@@ -1,10 +1,7 @@
--- What the boards say of one more task, what a report has of one more event, what a request leaves of the boards, and
--- what an event makes of them.
-use Rattle.std.proofs.Common.{◌≡◌, ℕ, suc, ◌+◌, ◌<◌, ◌≤◌, Bool, false, List, [], ◌∷◌, ◌++◌, length, map, take, Some, slice_get, slice_set, refl, sym, ◌∙◌, ap, subst, arith, length-set}
+-- What the boards say of one more task, what a request leaves of the boards, and what an event makes of them.
+use Rattle.std.proofs.Common.{◌≡◌, ℕ, suc, ◌+◌, ◌<◌, ◌≤◌, Bool, false, List, [], ◌∷◌, ◌++◌, length, map, slice_set, refl, sym, ◌∙◌, ap, subst, arith, length-set}
 use Rattle.std.specs.Prelude.{IsTrue, ◌&&◌, ◌||◌, not, is_some}
 use Rattle.std.specs.List.{All}
-use Rattle.std.proofs.lemmas.List.{take_all, take_more}
-use Rattle.std.proofs.lemmas.Option.{get_or_from_slice_get, slice_get_within}
 use Rattle.rapid_model.specs.CellData.{CellData}
 use Rattle.rapid_model.specs.Own.{part_of}
 use Rattle.rapid_model.specs.declared.answer.Answer.{Answer}
@@ -47,12 +44,6 @@ stand_more n boards = ap (λ (k : ℕ). all_stand k boards) (next n)
 
 pub fates_more : (spent : Bool) (n : ℕ) (actors : List Actor) → fates_of spent (n + 1) actors ≡ fates_of spent n actors ++ standing spent (actor_at actors n).end ∷ []
 fates_more spent n actors = ap (λ (k : ℕ). fates_of spent k actors) (next n)
-
-pub events_more : (events : List Event) (k : ℕ) (e : Event) → slice_get events k ≡ Some e → take (k + 1) events ≡ take k events ++ e ∷ []
-events_more events k e at = take_more events k e (slice_get_within events k e at) ∙ ap (λ (f : Event). take k events ++ f ∷ []) (get_or_from_slice_get events k e e at)
-
-pub all_events : (events : List Event) (n : ℕ) → n ≡ length events → take n events ≡ events
-all_events events n all = take_all n events (omega (arith, all))
 
 -- no request makes a queue longer
 le_self : (n : ℕ) → n ≤ n

@@ -5,7 +5,6 @@ ghost use Rattle.std.specs.Vec.{vec_capacity};
 ghost use Rattle.cell_core.specs.Reading.{fates_of, standing};
 
 use crate::boards::Boards;
-use history_pages::Pages;
 use rapid_model::{Event, Fate};
 use std::alloc::Global;
 
@@ -17,18 +16,6 @@ pub(crate) fn reserve(alloc: Global, events: u32, fates: u32) -> Option<(Vec<Eve
     let events = Vec::with_capacity(alloc, events as usize).ok()?;
     let fates = Vec::with_capacity(alloc, fates as usize).ok()?;
     Some((events, fates))
-}
-
-/// Copies all events of pages, oldest first, into the room reserved for them.
-#[tactic(auto, using(crate::proofs::Looks::events_more, crate::proofs::Looks::all_events))]
-pub(crate) fn fill(pages: &Pages, events: &mut Vec<Event>)
-    requires none { events.old.items ≡ [] }
-    requires room { length pages.now.events ≤ vec_capacity events.old }
-    ensures { events.new.items ≡ pages.now.events }
-{
-    for k in 0..pages.len() {
-        events.push_reserved(pages.get(k));
-    }
 }
 
 /// Appends how each of this many tasks stands, in the room reserved for it.

@@ -18,7 +18,7 @@ ghost use Rattle.cell_core.specs.Soundness.{IsSound};
 
 use crate::boards::{Boards, is_counted};
 use crate::fits::{allows, feeds, goes_with};
-use crate::report::{fill, reserve, standing, tell};
+use crate::report::{reserve, standing, tell};
 use crate::served::Served;
 use crate::starting::starts_full;
 use history_pages::Pages;
@@ -338,7 +338,7 @@ impl Core {
             mut report,
             mut fates,
         } = self;
-        fill(&pages, &mut report);
+        pages.copy_to(&mut report);
         tell(&boards, tasks, spent, &mut fates);
         (report, fates)
     }

@@ -5,5 +5,6 @@ pub mod Packed
 pub mod Reading
 pub mod Writing
 pub mod Replies
+pub mod Copied
 pub mod Lined
 pub mod Examples

@@ -234,7 +234,8 @@ event_at (h ∷ heads) words zero head at all =
     ap (event_in words) (sym same) ∙ there.1 ∙ ap (λ o. Some (unwrap_or o (event_of 0 requests.Rise answers.Ok))) (sym there.1)
 event_at (h ∷ heads) words (suc k) head at all = event_at heads words k head at (and_parts (is_some (event_in words h)) (list_all (λ x. is_some (event_in words x)) heads) all).1
 
-pub no_event_at : (heads : List Head) (words : List ℤ) (k : ℕ) → slice_get heads k ≡ None → None ≡ slice_get (events_in heads words) k
-no_event_at heads words k at =
-    let read : Head → Event = λ head. unwrap_or (event_in words head) (event_of 0 requests.Rise answers.Ok) in
-    sym (slice_get-map read heads k ∙ ap (option_map read) at)
+-- and there is one
+pub spelled_at : (heads : List Head) (words : List ℤ) (k : ℕ) (head : Head) → slice_get heads k ≡ Some head → list_all (λ h. is_some (event_in words h)) heads ≡ true → is_some (event_in words head) ≡ true
+spelled_at heads words k head at all =
+    let read : Head → Event = λ h. unwrap_or (event_in words h) (event_of 0 requests.Rise answers.Ok) in
+    ap is_some (event_at heads words k head at all ∙ slice_get-map read heads k ∙ ap (option_map read) at)

@@ -3,6 +3,7 @@
 #![tactic(auto)]
 
 mod answer_form;
+mod copying;
 mod head;
 mod laws;
 mod paged;

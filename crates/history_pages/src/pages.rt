@@ -1,4 +1,5 @@
 ghost use Rattle.std.specs.Prelude.{◌≡◌, ◌==◌, ◌<◌, ◌≤◌, [], length, slice_get, Some, IfOk, IsTrue};
+ghost use Rattle.std.specs.Vec.{vec_capacity};
 ghost use Rattle.rapid_model.specs.declared.event.Event.{Event};
 ghost use Rattle.history_pages.specs.Packing.{event_of};
 ghost use Rattle.history_pages.specs.Pages.{with_event};
@@ -6,6 +7,7 @@ ghost use Rattle.history_pages.specs.Replies.{is_reply_to};
 ghost use Rattle.history_pages.specs.Requests.{is_lined};
 
 use crate::answer_form::AnswerForm;
+use crate::copying::copy_event;
 use crate::head::Head;
 use crate::paged::Paged;
 use crate::payload::put_words;
@@ -109,7 +111,18 @@ impl Pages {
         requires { k < length self.now.events }
         ensures { slice_get self.now.events k ≡ Some result }
     {
-        self.find(k).unwrap()
+        self.heads.at(k as usize).spelled(&self.words)
+    }
+
+    /// Copies all events, oldest first, into the room of an empty list. Allocates nothing.
+    pub fn copy_to(&self, events: &mut Vec<Event>)
+        requires none { events.old.items ≡ [] }
+        requires room { length self.now.events ≤ vec_capacity events.old }
+        ensures { events.new.items ≡ self.now.events }
+    {
+        for k in 0..self.len() {
+            copy_event(self.heads.at(k as usize), &self.words, events);
+        }
     }
 
     /// Whether event `k`, from 0, asks for a setpoint or a text to the operator. Reads its head alone.
@@ -120,16 +133,6 @@ impl Pages {
         match self.heads.get(k as usize) {
             Some(head) => head.request.is_lined(),
             None => false,
-        }
-    }
-
-    /// Event `k`, from 0; `None` past the end.
-    fn find(&self, k: u32) -> Option<Event>
-        ensures { result ≡ slice_get self.now.events k }
-    {
-        match self.heads.get(k as usize) {
-            Some(head) => head.event(&self.words),
-            None => None,
         }
     }
 }

@@ -1,4 +1,4 @@
-use Rattle.std.proofs.Common.{◌≡◌, refl, ap, ◌∙◌, false, None, slice_set}
+use Rattle.std.proofs.Common.{refl, ap, ◌∙◌, false, None, slice_set}
 use Rattle.std.proofs.lemmas.List.{get_or_read}
 use Rattle.rapid_model.specs.declared.request.Request.TheVariants as requests
 use Rattle.cell_core.specs.Actors.{actor_with, before}

@@ -1,4 +1,3 @@
-use Rattle.std.proofs.Common.{◌≡◌}
 use Rattle.rapid_model.specs.declared.request.Request.TheVariants as requests
 use Rattle.cell_core.specs.Ready.{CanAnswer}
 use Rattle.cell_core.proofs.boards.Boards.take.Goals as goal

@@ -5,8 +5,8 @@ use Rattle.cell_core.proofs.Growing.{few_events}
 use Rattle.cell_core.proofs.Reading.{fates_are}
 use Rattle.cell_core.proofs.shared.Core.into_report.Goals as goal
 
-pub fill-requires-clause-room : goal.fill-requires-clause-room
-fill-requires-clause-room c =
+pub copy_to-requires-clause-room : goal.copy_to-requires-clause-room
+copy_to-requires-clause-room c =
     let core = c.self.inside in
     omega (arith, few_events core.cell core.pages.events core.boards core.steps c.self.invariant.0, c.self.invariant.1.events)
 
