@@ -7,12 +7,13 @@ use Rattle.std.proofs.lemmas.Option.{same_Some}
 use Rattle.zone_clearance.specs.declared.line.Line.{Line}
 use Rattle.zone_clearance.specs.declared.search.best.Best.{Best}
 use Rattle.zone_clearance.specs.declared.search.level.Level.{Level}
-use Rattle.zone_clearance.specs.Levels.{HasLine, IsHigher, IsOver, IsRaisedTo, Meet, StayAbove}
+use Rattle.zone_clearance.specs.Levels.{HasLine, IsHigher, IsOver, IsRaisedTo, Meet, StayAbove, StaysUnder}
 use Rattle.zone_clearance.specs.Pairs.{Dip, IsBest, IsBestBefore, IsPair, IsTop, IsZero}
 use Rattle.zone_clearance.specs.Sides.{ComesBefore}
 use Rattle.zone_clearance.proofs.Arriving.{line_known}
 use Rattle.zone_clearance.proofs.Levels.{below_higher, under_higher}
 use Rattle.zone_clearance.proofs.Raising.{Meet-swap}
+use Rattle.zone_clearance.proofs.StayingUnder.{met_with}
 
 -- the order of pairs
 next_second : (i j first second : ℕ) → ComesBefore i j first (second + 1) → ComesBefore i j first second ⊎ ((i ≡ first) × (j ≡ second))
@@ -133,6 +134,21 @@ no_second lines level a b first second none is = record {
       elim (next_second i j first second before) [
         | inl earlier ↦ is.met i j l r earlier pair
         | inr here ↦ absurd (no_line lines j r (ap (λ (n : ℕ). slice_index_or lines n None) here.1 ∙ none) pair.second_line)
+      ];
+}
+
+-- a line after line 0 that is nowhere above the best level: any line meets the level with line 0, and so with this one
+pub low_first : (lines : List (Option Line)) (level : Level) (a b first : ℕ) (line : Line) → IsZero lines → 1 ≤ first → HasLine lines first line → StaysUnder line level → BestBefore lines level a b first first
+    → BestBefore lines level a b (first + 1) (first + 1)
+low_first lines level a b first line zero after there under is = record {
+  top = is.top;
+  met = λ i j l r before pair.
+      elim (next_first i j first pair.ordered before) [
+        | inl earlier ↦ is.met i j l r (inl earlier) pair
+        | inr here ↦
+            subst (λ (x : Line). Meet x r level) (same_line lines i first l line here pair.first_line there)
+            (met_with zero.line line r level under
+            (is.met 0 j zero.line r (inl after) (record { ordered = omega arith; first_line = zero.there; second_line = pair.second_line })))
       ];
 }
 

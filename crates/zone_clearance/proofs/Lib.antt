@@ -19,6 +19,7 @@ pub mod Finding
 pub mod Touching
 pub mod Certified
 pub mod Arriving
+pub mod StayingUnder
 pub mod BestPairs
 pub mod LeastEnds
 pub mod Passing

@@ -38,7 +38,7 @@ meet_at : (one two : Line) (level : Level) (k m : ℕ) → OnTheWay k m → Unde
 meet_at one two level k m here first second =
     record { k = k; m = m; whole = here.some; on_the_way = here.whole; holds = (first, second) }
 
-scaled_le : (x y : ℤ) (t b : ℕ) → x ≤ℤ y → (y *ℤ pos b) ≤ℤ pos t → (x *ℤ pos b) ≤ℤ pos t
+pub scaled_le : (x y : ℤ) (t b : ℕ) → x ≤ℤ y → (y *ℤ pos b) ≤ℤ pos t → (x *ℤ pos b) ≤ℤ pos t
 scaled_le x y t b le h = omega (arith, ints, times-le x y b le, h)
 
 -- the greater line at its lower end is a level that both lines meet

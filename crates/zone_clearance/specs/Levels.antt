@@ -20,6 +20,10 @@ Under line level k m = IsUnder line.start line.end level.top level.bottom k m
 abbrev pub Over : Line → Level → ℕ → ℕ → Type 0
 Over line level k m = IsOver line.start line.end level.top level.bottom k m
 
+-- the line is at most the level at each point of the way
+abbrev pub StaysUnder : Line → Level → Type 0
+StaysUnder line level = (k m : ℕ) → 1 ≤ m → k ≤ m → Under line level k m
+
 -- both lines are at most the level at some point of the way
 abbrev pub Meet : Line → Line → Level → Type 0
 Meet one two level = SomeFraction (λ k m. Under one level k m × Under two level k m)

@@ -1,7 +1,7 @@
 //! The pair of lines of which the greater one stays highest.
 
-ghost use Rattle.std.specs.Prelude.{◌+◌, ◌<◌};
-ghost use Rattle.zone_clearance.specs.Levels.{HasLine};
+ghost use Rattle.std.specs.Prelude.{◌+◌, ◌<◌, ◌↔◌, IsTrue};
+ghost use Rattle.zone_clearance.specs.Levels.{HasLine, StaysUnder};
 ghost use Rattle.zone_clearance.specs.Pairs.{IsBest, IsBestBefore, IsZero};
 
 use crate::line::Line;
@@ -22,10 +22,20 @@ pub(crate) fn best_pair(lines: &[Option<Line>; SIDES]) -> Best
     };
     for first in 0..SIDES {
         if let Some(line) = lines[first] {
-            best = best_with(lines, first, line, best);
+            // Each line meets the level with line 0, and so with a line that is nowhere above it.
+            if first == 0 || !stays_under(line, best.level) {
+                best = best_with(lines, first, line, best);
+            }
         }
     }
     best
+}
+
+/// Whether a line is nowhere above a level.
+fn stays_under(line: Line, level: Level) -> bool
+    ensures { IsTrue result ↔ StaysUnder line level }
+{
+    level.is_at_least(line.start.max(line.end))
 }
 
 /// The best one of the pairs before, and of those of line `first` with itself or a later one.
