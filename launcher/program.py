@@ -6,7 +6,7 @@ import subprocess
 import tempfile
 from dataclasses import dataclass
 from pathlib import Path
-from typing import Callable, Iterator, Optional, Sequence, Union
+from typing import Callable, Dict, Iterator, Optional, Sequence, Union
 
 from . import kept
 from .child import started
@@ -16,6 +16,8 @@ from .say import NO_PROGRAM, put_err, say
 Word = Union[str, bytes, Path]
 # How much of what the program says on standard error is kept.
 SAID = 65_536
+# A run takes room for all its events at once. In large pages, Linux hands that out in about a third of the time.
+LARGE_PAGES = {"GLIBC_TUNABLES": "glibc.malloc.hugetlb=1"}
 
 
 @dataclass(frozen=True)
@@ -49,11 +51,17 @@ def ready() -> Optional[Program]:
     return proved() or unproved()
 
 
+def environment() -> Dict[str, str]:
+    """The environment of the program: the launcher's own, and large pages if that says nothing about the C library."""
+    return {**LARGE_PAGES, **os.environ}
+
+
 def answer(program: Program, words: Sequence[Word], folder: Optional[Path] = None, seconds: Optional[float] = None) -> Answer:
     """Runs the program to its end and returns what it said. OSError if it does not start, TimeoutExpired after `seconds`."""
     ran = subprocess.run(
         [program.file, *words],
         cwd=folder,
+        env=environment(),
         stdin=subprocess.DEVNULL,
         stdout=subprocess.PIPE,
         stderr=subprocess.PIPE,
@@ -65,7 +73,7 @@ def answer(program: Program, words: Sequence[Word], folder: Optional[Path] = Non
 def become(program: Program, words: Sequence[bytes]) -> int:
     """Becomes the program. Returns a status only if it does not start."""
     try:
-        os.execv(program.file, [os.fsencode(program.file), *words])
+        os.execve(program.file, [os.fsencode(program.file), *words], environment())
     except OSError as error:
         return does_not_start(program, error)
 
@@ -75,7 +83,8 @@ def run(program: Program, words: Sequence[bytes]) -> Answer:
     said = b""
     try:
         # It meets a closed pipe as the launcher does: by a write that fails, and not by a signal.
-        with started([program.file, *words], end_child, stderr=subprocess.PIPE, restore_signals=False) as child:
+        how = {"env": environment(), "stderr": subprocess.PIPE, "restore_signals": False}
+        with started([program.file, *words], end_child, **how) as child:
             assert child.stderr
             while True:
                 more = os.read(child.stderr.fileno(), SAID)
@@ -93,7 +102,7 @@ def read(program: Program, words: Sequence[Word], take: Callable[[Iterator[str]]
     """Runs the program and hands its lines to `take` as they come, without their ends. What it says on standard error is kept."""
     with contextlib.ExitStack() as stack:
         said = stack.enter_context(tempfile.TemporaryFile())
-        how = {"stdin": subprocess.DEVNULL, "stdout": subprocess.PIPE, "stderr": said}
+        how = {"env": environment(), "stdin": subprocess.DEVNULL, "stdout": subprocess.PIPE, "stderr": said}
         try:
             child = stack.enter_context(started([program.file, *words], end_child, **how))
         except OSError as error:

@@ -104,6 +104,22 @@ def try_proof():
         compare("build", frame.start("build")[:2], (0, ""))
 
 
+def try_large_pages():
+    """The program is started with large pages, unless the user says something else to the C library."""
+    with tempfile.TemporaryDirectory() as folder:
+        frame = Frame(folder)
+        built = frame.top / "crates/controller_program/out/controller_program"
+        built.parent.mkdir()
+        built.write_text('#!/bin/sh\necho "$GLIBC_TUNABLES"\n')
+        built.chmod(0o755)
+        bare = {name: value for name, value in frame.environment("good").items() if name != "GLIBC_TUNABLES"}
+        for said, wanted in (({}, "glibc.malloc.hugetlb=1"), ({"GLIBC_TUNABLES": "glibc.malloc.check=0"}, "glibc.malloc.check=0")):
+            for plain in ((), ("--plain",)):
+                words = [sys.executable, frame.top / "rapid_cell", *plain, "check", "a.toml"]
+                ran = subprocess.run(words, stdout=subprocess.PIPE, stderr=subprocess.PIPE, env={**bare, **said})
+                compare(f"large pages {said} {plain}", (ran.returncode, ran.stdout), (0, f"{wanted}\n".encode()))
+
+
 def try_kept():
     """The unproved program is made once for the sources, and answers at once from then on."""
     with tempfile.TemporaryDirectory() as folder:
