@@ -7,11 +7,7 @@ mod cell;
 #[cfg(test)]
 mod clips;
 #[cfg(test)]
-mod events;
-#[cfg(test)]
 mod kept;
-#[cfg(test)]
-mod longest;
 #[cfg(test)]
 mod meetings;
 #[cfg(test)]

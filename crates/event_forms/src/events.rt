@@ -7,14 +7,14 @@ use crate::longest::Longest;
 use rapid_model::{Answer, Event, Fate, Fault, Request, Tail, Value, Watched, ZoneName};
 
 /// How many forms there are.
-pub(crate) const FORMS: u32 = 47;
+pub const FORMS: u32 = 47;
 
 const NUMBER: u8 = 255;
 
 const WIDE: u32 = 4_294_967_295;
 
 /// An event of an actor, of the form with this number; of the last form for every greater number.
-pub(crate) fn event(form: u32, actor: u32, longest: &Longest) -> Event
+pub fn event(form: u32, actor: u32, longest: &Longest) -> Event
     ensures { IsTrue (is_reply_to result.request result.answer) }
 {
     let (request, answer) = match form {
