@@ -3,7 +3,8 @@
 //! `docs/MEANING.md` says of these forms, and the cell keeps the history. It prints the lines that `round` prints, then how many
 //! events were counted, and seconds. It knows only as much of the language as the four cells need: no files, names or types, one
 //! task, no signals, zones, interrupts, waits or ERROR parts. None of it is proved. Its values are small; built with `--cfg wide`
-//! they are as large as the program's, and so are requests, answers and events.
+//! they are as large as the program's, and so are requests, answers and events; with `--cfg lines` each line is a write of its own.
+use std::fs::File;
 use std::io::{self, BufWriter, Write};
 use std::time::Instant;
 
@@ -292,6 +293,15 @@ fn arm_at(axes: [Num; 6]) -> Joints {
     std::array::from_fn(|k| if k < 6 { axes[k] } else { ABSENT })
 }
 
+/// Where the lines go: through a buffer or, built with `--cfg lines`, each by a call of its own, as the program writes them.
+fn sink() -> io::Result<Box<dyn Write>> {
+    if cfg!(lines) {
+        Ok(Box::new(File::options().append(true).open("/dev/stdout")?))
+    } else {
+        Ok(Box::new(BufWriter::new(io::stdout().lock())))
+    }
+}
+
 fn main() -> io::Result<()> {
     let begun = Instant::now();
     let (routines, steps) = cell_of(&std::env::args().nth(1).unwrap_or_default());
@@ -303,14 +313,17 @@ fn main() -> io::Result<()> {
         // The task asks for its end, which is not counted.
         let _ = task.cell.ask(Request::End(fate));
     }
-    let mut out = BufWriter::new(io::stdout().lock());
+    let mut out = sink()?;
+    let mut line = Vec::new();
     for event in &task.cell.history {
         if let Request::Setpoint(to) = &event.request {
-            write!(out, "S A")?;
+            line.clear();
+            write!(line, "S A")?;
             for it in &to[..6] {
-                write!(out, " {}{}.{:03}", if *it < 0 { "-" } else { "" }, it.abs() / 1000, it.abs() % 1000)?;
+                write!(line, " {}{}.{:03}", if *it < 0 { "-" } else { "" }, it.abs() / 1000, it.abs() % 1000)?;
             }
-            writeln!(out)?;
+            writeln!(line)?;
+            out.write_all(&line)?;
         }
     }
     writeln!(out, "E A {fate}\n{counted} events, {:.6} s", begun.elapsed().as_secs_f64())?;
