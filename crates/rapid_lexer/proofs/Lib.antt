@@ -1,5 +1,6 @@
 mod Examples
 pub mod Scan
+pub mod FirstBytes
 pub mod GapLoops
 pub mod Columns
 pub mod CharacterLoop

@@ -1,22 +1,18 @@
 -- Comparing a text with words.
-use Rattle.std.proofs.Common.{◌≡◌, ℕ, suc, ◌+◌, ◌<◌, Bool, true, false, ◌&&◌, cond, if◌then◌else◌, eqb, List, [], ◌∷◌, length, get_or, map, drop, Bor, Option, Some, refl, sym, ap, ◌∙◌}
+use Rattle.std.proofs.Common.{◌≡◌, ℕ, ◌+◌, ◌<◌, Bool, true, false, cond, if◌then◌else◌, eqb, List, [], ◌∷◌, length, get_or, map, drop, Bor, Option, Some, refl, sym, ap, ◌∙◌, arith}
 use Rattle.std.specs.List.{filter}
 use Rattle.std.proofs.lemmas.List.{at_drop_more}
-use Rattle.std.proofs.lemmas.Bool.{eq-eqb}
+use Rattle.std.proofs.lemmas.Bool.{and_parts}
 use Rattle.rapid_lexer.specs.Bytes.{upper}
 use Rattle.rapid_lexer.specs.declared.word.Word.{Word}
 use Rattle.rapid_lexer.specs.Words.{words, word_in, word_of}
 use Rattle.rapid_lexer.specs.Reading.{is_word}
 
-pub is_word-length : (word text : List ℕ) → is_word word text ≡ true → length word ≡ length text
-is_word-length [] [] e = refl
-is_word-length [] (y ∷ ys) e = absurd cc
-is_word-length (x ∷ xs) [] e = absurd cc
-is_word-length (x ∷ xs) (y ∷ ys) e = ap suc (is_word-length xs ys (second (eqb x (upper y)) (is_word xs ys) e))
-  where
-    second : (a b : Bool) → (a && b) ≡ true → b ≡ true
-    second true b h = h
-    second false b h = absurd cc
+-- a word that a text is starts with the uppercase of the text's first byte
+is_word-first : (word text : List ℕ) → 0 < length text → is_word word text ≡ true → eqb (get_or word 0 0) (upper (get_or text 0 0)) ≡ true
+is_word-first word [] some e = absurd (omega (arith, some))
+is_word-first [] (y ∷ ys) some e = absurd cc
+is_word-first (x ∷ xs) (y ∷ ys) some e = (and_parts (eqb x (upper y)) (is_word xs ys) e).0
 
 abbrev pub plain : List (Bor (List ℕ) × Word) → List (List ℕ × Word)
 plain rows = map (λ row. (row.0.now, row.1)) rows
@@ -36,9 +32,9 @@ word_in_kept q text h (row ∷ rows) =
     filtered true = refl
     filtered false = refl
 
--- among the words of the same length, a text is the same word as among all
-pub words_of_length : (text : List ℕ) → word_in (filter (λ row. eqb (length row.0) (length text)) words) (map upper text) ≡ word_of text
-words_of_length text = word_in_kept (λ row. eqb (length row.0) (length text)) text (λ row e. eq-eqb (length row.0) (length text) (is_word-length row.0 text e)) words
+-- among the words that start with the uppercase of its first byte, a text is the same word as among all
+pub words_with_first : (text : List ℕ) (letter : ℕ) → 0 < length text → letter ≡ upper (get_or text 0 0) → word_in (filter (λ row. eqb (get_or row.0 0 0) letter) words) (map upper text) ≡ word_of text
+words_with_first text letter some is = word_in_kept (λ row. eqb (get_or row.0 0 0) letter) text (λ row e. rw is (is_word-first row.0 text some e)) words
 
 -- the table from row i on, where test says whether the text of the row is this text
 pub row_more : (rows : List (Bor (List ℕ) × Word)) (text : List ℕ) (i : ℕ) (d : Bor (List ℕ) × Word) (test : Bool) → i < length rows → test ≡ is_word (get_or rows i d).0.now text

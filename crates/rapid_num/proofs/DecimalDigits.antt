@@ -2,6 +2,7 @@
 use Rattle.std.proofs.Common.{◌≡◌, ℕ, ◌+◌, ◌*◌, ◌/◌, ◌%◌, ◌^◌, ◌<◌, ◌≤◌, Bool, true, false, List, [], ◌∷◌, ◌++◌, length, refl, ap, ◌∙◌, arith, decimal}
 use Rattle.std.proofs.lemmas.Fmt.{decimal_by_steps}
 use Rattle.std.proofs.lemmas.List.Sums.{fold-append}
+use Rattle.std.proofs.lemmas.Bool.{and_parts}
 use Rattle.std.proofs.lemmas.Bool.Decides.{nat_tests}
 use Rattle.std.proofs.lemmas.Grind.{common_steps}
 use Rattle.std.specs.List.{AllByRecursion, list_all, position_or_len, fold}
@@ -29,6 +30,16 @@ all_below_ten (x ∷ xs) h =
     let high : x ≤ 57 = h.0.1 in
     let first : nat_lt (digit_value x) 10 ≡ true = grind (arith, nat_tests) in
     rw first (all_below_ten xs h.1)
+
+-- a byte whose value is below ten is a digit
+digit_below_ten : (b : ℕ) → nat_lt (digit_value b) 10 ≡ true → (48 ≤ b) × (b ≤ 57)
+digit_below_ten b h = (grind (arith, nat_tests), grind (arith, nat_tests))
+
+pub below_ten_digits : (ds : List ℕ) → list_all (λ b. nat_lt (digit_value b) 10) ds ≡ true → AreDigits ds
+below_ten_digits [] h = tt
+below_ten_digits (x ∷ xs) h =
+    let both = and_parts (nat_lt (digit_value x) 10) (list_all (λ b. nat_lt (digit_value b) 10) xs) h in
+    (digit_below_ten x both.0, below_ten_digits xs both.1)
 
 -- no digit passes the test, so the first byte that passes is after the digits
 pub passes_digits : (p : ℕ → Bool) → ((b : ℕ) → 48 ≤ b → b ≤ 57 → p b ≡ false) → (xs ys : List ℕ) → AreDigits xs → position_or_len p (xs ++ ys) ≡ length xs + position_or_len p ys

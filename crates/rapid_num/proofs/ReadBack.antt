@@ -1,19 +1,20 @@
--- Reading back what is written for a num without a sign.
-use Rattle.std.proofs.Common.{◌≡◌, ◌≢◌, ℕ, ◌+◌, ◌*◌, ◌/◌, ◌%◌, ◌^◌, ◌<◌, ◌≤◌, true, false, cond, List, [], ◌∷◌, ◌++◌, length, take, drop, refl, sym, ap, ◌∙◌, arith, decimal, Some, None, ℤ, pos, ◌+ℤ◌, ◌-ℤ◌, length-append, append_assoc, append-nil, inl, inr}
+-- Reading digits alone, and reading back what is written for a num without a sign.
+use Rattle.std.proofs.Common.{◌≡◌, ◌≢◌, ℕ, ◌+◌, ◌*◌, ◌/◌, ◌%◌, ◌^◌, ◌<◌, ◌≤◌, Bool, true, false, cond, List, [], ◌∷◌, ◌++◌, length, take, drop, refl, sym, ap, ◌∙◌, arith, decimal, Some, None, ℤ, pos, ◌+ℤ◌, ◌-ℤ◌, length-append, append_assoc, append-nil, inl, inr}
 use Rattle.std.proofs.lemmas.Fmt.{length-decimal-le}
 use Rattle.std.proofs.lemmas.List.{take_at, drop_at, take_all, drop_all}
 use Rattle.std.proofs.lemmas.List.Sums.{fold-append}
-use Rattle.std.proofs.lemmas.Bool.{cases_eq}
+use Rattle.std.proofs.lemmas.Bool.{and_parts, cases_eq}
 use Rattle.std.proofs.lemmas.Bool.Decides.{nat_tests}
 use Rattle.std.proofs.lemmas.Grind.{common_steps}
-use Rattle.std.specs.List.{AllByRecursion, position, position_or_len, before_first, after_first, fold}
+use Rattle.std.specs.List.{AllByRecursion, position, position_or_len, before_first, after_first, fold, list_all}
 use Rattle.std.specs.Option.{option_map}
-use Rattle.std.specs.Prelude.{Option, nat_abs, ◌==◌}
+use Rattle.std.specs.Prelude.{Option, nat_abs, nat_lt, not, ◌==◌}
 use Rattle.rapid_num.specs.Range.{greatest, IsNum}
-use Rattle.rapid_num.specs.Literal.{digit_value, digits_number, are_digits, is_point, is_exponent_letter, mantissa_of, scaled, base_of, decimal_thousandths, spelled_thousandths, literal_value}
+use Rattle.rapid_num.specs.Literal.{digit_value, digits_number, are_digits, is_point, is_exponent_letter, mantissa_of, scaled, base_of, based_thousandths, decimal_thousandths, spelled_thousandths, literal_value}
+use Rattle.rapid_num.specs.Reading.{within}
 use Rattle.rapid_num.specs.NumText.{fraction_text, three_digits, shortest_text, fixed_text}
 use Rattle.rapid_num.proofs.Cuts.{decimal_without}
-use Rattle.rapid_num.proofs.DecimalDigits.{AreDigits, one_more, digit_value_of, all_below_ten, passes_digits, AreDigits-append, decimal_text}
+use Rattle.rapid_num.proofs.DecimalDigits.{AreDigits, one_more, digit_value_of, all_below_ten, below_ten_digits, passes_digits, AreDigits-append, decimal_text}
 
 -- no byte is a letter
 abbrev AreLow : List ℕ → Type 0
@@ -85,6 +86,23 @@ mantissa_whole ds h some =
     let front : before_first is_point ds ≡ ds = ap (λ n. take n ds) at ∙ take_all (length ds) ds (omega arith) in
     let back : after_first is_point ds ≡ [] = ap (λ n. drop (n + 1) ds) at ∙ drop_all (length ds + 1) ds (omega arith) in
     ap (λ x. mantissa_parts x (after_first is_point ds)) front ∙ ap (mantissa_parts ds) back ∙ parts_are ds [] h tt some
+
+-- digits alone spell their number
+spelled_digits : (ds : List ℕ) → are_digits 10 ds ≡ true → spelled_thousandths ds ≡ Some (digits_number 10 ds * 1000)
+spelled_digits ds e =
+    let both = and_parts (not (length ds == 0)) (list_all (λ b. nat_lt (digit_value b) 10) ds) e in
+    let digits : AreDigits ds = below_ten_digits ds both.1 in
+    let some : 0 < length ds = grind (arith, nat_tests, both.0) in
+    let low : AreLow ds = low_digits ds digits in
+    let same : fold one_more 0 ds * 10 ^ 3 ≡ digits_number 10 ds * 1000 = omega arith in
+    spelled_low ds low ∙ decimal_without ds (no_letter ds low) ∙ ap (option_map (λ p. scaled p.0 ((pos 0 -ℤ pos p.1) +ℤ pos 3))) (mantissa_whole ds digits some) ∙ ap Some same
+
+pub reads_digits : (ds : List ℕ) (n : ℕ) → Some n ≡ within (based_thousandths ds 10) → Some n ≡ within (spelled_thousandths ds)
+reads_digits ds n e = at (are_digits 10 ds) refl e
+  where
+    at : (t : Bool) → are_digits 10 ds ≡ t → Some n ≡ within (cond t (Some (digits_number 10 ds * 1000)) None) → Some n ≡ within (spelled_thousandths ds)
+    at true is h = h ∙ ap within (sym (spelled_digits ds is))
+    at false is h = absurd cc
 
 reads_whole : (q n : ℕ) → q < 10 ^ 10 → n ≡ q * 1000 → n ≤ greatest → literal_value (decimal q) ≡ Some (pos n)
 reads_whole q n small e range =

@@ -5,6 +5,7 @@ use Rattle.std.proofs.lemmas.Nat.{pow-add}
 use Rattle.std.proofs.lemmas.Bool.Decides.{nat_tests}
 use Rattle.rapid_num.specs.Range.{greatest}
 use Rattle.rapid_num.specs.Arithmetic.{rounded}
+use Rattle.rapid_num.specs.Literal.{base_of}
 use Rattle.rapid_num.specs.Reading.{size_within}
 
 pub too_great : (n : ℕ) → greatest < n → size_within n ≡ None
@@ -41,6 +42,9 @@ pub both_fit : (n a b : ℕ) → n + 1 ≤ 1 * 10 ^ a → a + b ≤ 30 → (n + 
 both_fit n a b h short =
     let product : (n + 1) * 10 ^ b ≤ 1 * 10 ^ a * 10 ^ b = mul-le-mul_right (10 ^ b) h in
     omega (arith, pow-add 10 a b, pow_ten_fits (a + b) short)
+
+pub base_at_most : (letter base : ℕ) → Some base ≡ base_of letter → base ≤ 16
+base_at_most letter base e = grind (arith, nat_tests)
 
 pub based_fits : (base k : ℕ) → base ≤ 16 → k ≤ 28 → base ^ k ≤ 16 ^ 28
 based_fits base k low short =

@@ -1,5 +1,5 @@
 //! Numerical literals.
-ghost use Rattle.std.specs.Prelude.{◌≡◌, ◌-◌, ◌≤◌, length};
+ghost use Rattle.std.specs.Prelude.{◌≡◌, ◌*◌, ◌^◌, ◌≤◌, length};
 ghost use Rattle.std.specs.Result.{result_ok};
 ghost use Rattle.rapid_num.specs.Literal.{base_of, based_thousandths, literal_value, spelled_thousandths};
 ghost use Rattle.rapid_num.specs.Reading.{within};
@@ -28,8 +28,7 @@ fn base_of(letter: u8) -> Option<u128>
 
 /// The value of digits of a base, in thousandths.
 fn read_based(digits: &[u8], base: u128) -> Option<u64>
-    requires short { length digits.now ≤ LONGEST_LITERAL - 2 }
-    requires known { base ≤ 16 }
+    requires room { base ^ length digits.now * 1000 ≤ 2 ^ 127 }
     ensures { result ≡ within (based_thousandths digits.now base) }
 {
     let number = read_digits(base, digits)?;
@@ -41,6 +40,10 @@ fn read_thousandths(text: &[u8]) -> Option<u64>
     requires short { length text.now ≤ LONGEST_LITERAL }
     ensures { result ≡ within (spelled_thousandths text.now) }
 {
+    // Most literals are digits alone: there is no need to look for a point or an exponent.
+    if let Some(whole) = read_based(text, 10) {
+        return Some(whole);
+    }
     if text.len() < 2 || text[0] != b'0' {
         return read_decimal(text);
     }

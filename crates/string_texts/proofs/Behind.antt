@@ -1,5 +1,5 @@
 -- What follows a quote, character by character.
-use Rattle.std.proofs.Common.{◌≡◌, ℕ, ◌+◌, ◌-◌, ◌*◌, ◌<◌, ◌≤◌, Bool, true, false, cond, eqb, nat_le, nat_lt, get_or, List, [], ◌∷◌, ◌++◌, length, drop, Option, Some, None, refl, sym, ap, ◌∙◌, append_assoc, length-append, arith}
+use Rattle.std.proofs.Common.{◌≡◌, ℕ, ◌+◌, ◌-◌, ◌*◌, ◌<◌, ◌≤◌, Bool, true, false, cond, eqb, nat_le, nat_lt, List, [], ◌∷◌, ◌++◌, length, drop, Option, Some, None, refl, sym, ap, ◌∙◌, append_assoc, append-nil, length-append, arith}
 use Rattle.std.proofs.lemmas.Bool.{eqb-true, and_parts}
 use Rattle.std.proofs.lemmas.Bool.Decides.{nat_tests}
 use Rattle.std.specs.Option.{option_map}
@@ -7,10 +7,14 @@ use Rattle.rapid_num.specs.Literal.{digit_value}
 use Rattle.rapid_model.specs.Printable.{takes}
 use Rattle.rapid_num.specs.Characters.{is_printable}
 use Rattle.rapid_lexer.specs.Strings.{is_code}
-use Rattle.string_texts.specs.Spelled.{limited, text_behind, text_in, with_character}
-use Rattle.string_texts.specs.Reading.{continued_by, first_of}
+use Rattle.string_texts.specs.Spelled.{limited, text_behind, with_character}
+use Rattle.string_texts.specs.Reading.{first_of}
 use Rattle.string_texts.proofs.Firsts.{found}
-use Rattle.string_texts.proofs.Continuing.{grown, quote_first, takes_it}
+use Rattle.string_texts.proofs.Continuing.{takes_it}
+
+-- the text so far, continued by this one if both together have at most 80 characters
+abbrev pub continued_by : List ℕ → Option (List ℕ) → Option (List ℕ)
+continued_by begun text = option_map (λ more. begun ++ more) (limited (80 - length begun) text)
 
 -- the first character, and the text after it
 abbrev behind : Option (ℕ × ℕ) → List ℕ → Option (List ℕ)
@@ -90,7 +94,7 @@ full begun byte (Some rest) le =
     let no : nat_le (length (byte ∷ rest)) (80 - length begun) ≡ false = grind (arith, nat_tests) in rw no refl
 
 -- what continues the empty text
-from_nothing : (text : Option (List ℕ)) → continued_by [] text ≡ limited 80 text
+pub from_nothing : (text : Option (List ℕ)) → continued_by [] text ≡ limited 80 text
 from_nothing None = refl
 from_nothing (Some text) = at (nat_le (length text) 80)
   where
@@ -99,23 +103,15 @@ from_nothing (Some text) = at (nat_le (length text) 80)
     at false = refl
 
 -- after a character that fits, the rest continues the text
-pub goes_text : (bytes rest begun text : List ℕ) (byte len : ℕ) (result : Option (List ℕ)) → first_of bytes ≡ Some (byte, len)
-    → Some text ≡ cond (takes 80 begun byte) (Some (begun ++ byte ∷ [])) None → rest ≡ drop len bytes
-    → result ≡ continued_by text (text_behind rest) → result ≡ continued_by begun (text_behind bytes)
-goes_text bytes rest begun text byte len result first taken is goes =
-    goes
-    ∙ ap (λ (t : List ℕ). continued_by t (text_behind rest)) (grown (takes 80 begun byte) text (begun ++ byte ∷ []) taken)
-    ∙ grows begun byte (text_behind rest) (room (takes 80 begun byte) refl taken)
-    ∙ ap (λ (r : List ℕ). continued_by begun (with_character byte (text_behind r))) is
-    ∙ ap (continued_by begun) (sym (behind_first bytes byte len first))
-  where
-    room : (b : Bool) → takes 80 begun byte ≡ b → Some text ≡ cond b (Some (begun ++ byte ∷ [])) None → length begun < 80
-    room true e h = let x = (and_parts (is_printable byte) (nat_lt (length begun) 80) e).1 in grind (arith, nat_tests)
-    room false e h = absurd cc
+pub goes_text : (bytes begun : List ℕ) (byte len : ℕ) → first_of bytes ≡ Some (byte, len) → takes 80 begun byte ≡ true
+    → continued_by (begun ++ byte ∷ []) (text_behind (drop len bytes)) ≡ continued_by begun (text_behind bytes)
+goes_text bytes begun byte len first taken =
+    let test : nat_lt (length begun) 80 ≡ true = (and_parts (is_printable byte) (nat_lt (length begun) 80) taken).1 in
+    let room : length begun < 80 = grind (arith, nat_tests) in
+    grows begun byte (text_behind (drop len bytes)) room ∙ ap (continued_by begun) (sym (behind_first bytes byte len first))
 
 -- a character that does not fit: the text would be too long
-pub too_long : (bytes begun : List ℕ) (byte len : ℕ) → first_of bytes ≡ Some (byte, len)
-    → None ≡ cond (takes 80 begun byte) (Some (begun ++ byte ∷ [])) None → None ≡ continued_by begun (text_behind bytes)
+pub too_long : (bytes begun : List ℕ) (byte len : ℕ) → first_of bytes ≡ Some (byte, len) → takes 80 begun byte ≡ false → None ≡ continued_by begun (text_behind bytes)
 too_long bytes begun byte len first refused =
     full begun byte (text_behind (drop len bytes)) (at (nat_lt (length begun) 80) refl) ∙ ap (continued_by begun) (sym (behind_first bytes byte len first))
   where
@@ -123,15 +119,11 @@ too_long bytes begun byte len first refused =
     at true e =
         let less : length begun < 80 = grind (arith, nat_tests) in
         let yes = takes_it bytes begun byte len first less in
-        absurd (let no : None ≡ Some (begun ++ byte ∷ []) = refused ∙ ap (λ (b : Bool). cond b (Some (begun ++ byte ∷ [])) None) yes in cc)
+        absurd (let no : true ≡ false = sym yes ∙ refused in cc)
     at false e = grind (arith, nat_tests)
 
--- the text after the opening quote
-pub from_quote : (quoted rest begun : List ℕ) (result : Option (List ℕ)) → get_or quoted 0 0 ≡ 34 → begun ≡ [] → rest ≡ drop 1 quoted
-    → result ≡ continued_by begun (text_behind rest) → result ≡ text_in quoted
-from_quote quoted rest begun result first none is goes =
-    goes
-    ∙ ap (λ (t : List ℕ). continued_by t (text_behind rest)) none
-    ∙ from_nothing (text_behind rest)
-    ∙ ap (λ (r : List ℕ). limited 80 (text_behind r)) is
-    ∙ ap text_in (sym (quote_first quoted first))
+-- the closing quote comes first
+pub quote_last : (begun : List ℕ) → Some begun ≡ continued_by begun (text_behind (34 ∷ []))
+quote_last begun =
+    let room : nat_le 0 (80 - length begun) ≡ true = grind (arith, nat_tests) in
+    rw room (ap Some (sym (append-nil begun)))

@@ -1,13 +1,20 @@
 -- A text grows character by character.
-use Rattle.std.proofs.Common.{◌≡◌, ℕ, ◌<◌, Bool, true, false, cond, List, [], ◌∷◌, ◌++◌, length, map, drop, Option, Some, None, IfSome, nat_lt, get_or, refl, sym, ap, ◌∙◌, append_assoc, append-nil, length-append, arith}
+use Rattle.std.proofs.Common.{◌≡◌, ℕ, ◌<◌, true, List, [], ◌∷◌, ◌++◌, length, map, drop, Some, None, nat_lt, refl, sym, ap, ◌∙◌, append_assoc, append-nil, length-append, arith}
 use Rattle.std.specs.List.{concat}
 use Rattle.rapid_model.specs.Printable.{takes}
 use Rattle.std.proofs.lemmas.Bool.Decides.{nat_tests}
 use Rattle.std.proofs.Math.Seq.{drop-append_seam}
 use Rattle.rapid_lexer.specs.Strings.{AreCharacters}
 use Rattle.string_texts.specs.Spelled.{character_of, Spells}
-use Rattle.string_texts.specs.Reading.{first_of, Continues}
+use Rattle.string_texts.specs.Reading.{first_of}
 use Rattle.string_texts.proofs.Firsts.{found_parts, character_first, first_is}
+
+-- the bytes are characters and a quote, and the characters continue the text
+pub record Continues (bytes begun text : List ℕ) : Type 0 where
+  pub characters : List (List ℕ)
+  pub are : AreCharacters characters
+  pub whole : bytes ≡ concat characters ++ 34 ∷ []
+  pub text_is : text ≡ begun ++ map character_of characters
 
 -- if no character comes first, the text ends
 pub nothing_more : (bytes begun t : List ℕ) → first_of bytes ≡ None → Continues bytes begun t → (bytes ≡ 34 ∷ []) × (t ≡ begun)
@@ -70,24 +77,18 @@ spells bytes t h = record {
   text_is = h.text_is;
 }
 
+-- from the token to what follows the quote
+pub after_quote : (bytes t : List ℕ) → Spells (34 ∷ bytes) t → Continues bytes [] t
+after_quote bytes t h = record {
+  characters = h.characters;
+  are = h.string.characters;
+  whole = ap (drop 1) h.string.whole;
+  text_is = h.text_is;
+}
+
 -- a text that is not full accepts the character
 pub takes_it : (bytes begun : List ℕ) (byte len : ℕ) → first_of bytes ≡ Some (byte, len) → length begun < 80 → takes 80 begun byte ≡ true
 takes_it bytes begun byte len e h =
     let p = (first_is bytes byte len e).printable in
     let x : nat_lt (length begun) 80 ≡ true = grind (arith, nat_tests) in
     rw (p, x) refl
-
--- the first of the bytes is a quote
-pub quote_first : (quoted : List ℕ) → get_or quoted 0 0 ≡ 34 → quoted ≡ 34 ∷ drop 1 quoted
-quote_first [] e = absurd (omega arith)
-quote_first (b ∷ bs) e = ap (λ (n : ℕ). n ∷ bs) e
-
--- if a text is given, it is the longer one
-pub grown : (b : Bool) (t more : List ℕ) → Some t ≡ cond b (Some more) None → t ≡ more
-grown true t more e = cc
-grown false t more e = absurd cc
-
--- what follows for each text follows if there is one
-pub kept : (r : Option (List ℕ)) (P Q : List ℕ → Type 0) → ((t : List ℕ) → P t → Q t) → IfSome r P → IfSome r Q
-kept None P Q f h = tt
-kept (Some t) P Q f h = f t h

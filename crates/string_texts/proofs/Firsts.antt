@@ -1,5 +1,5 @@
 -- The first character, and what follows it.
-use Rattle.std.proofs.Common.{◌≡◌, ℕ, ◌+◌, ◌*◌, Bool, true, false, ◌&&◌, cond, eqb, List, [], ◌∷◌, ◌++◌, length, Option, Some, None, refl, sym, ap, subst, inl, inr}
+use Rattle.std.proofs.Common.{◌≡◌, ℕ, ◌+◌, ◌*◌, ◌<◌, ◌≤◌, Bool, true, false, ◌&&◌, cond, eqb, List, [], ◌∷◌, ◌++◌, length, Option, Some, None, refl, sym, ap, subst, inl, inr, length-append, arith}
 use Rattle.std.proofs.lemmas.Bool.{eqb-true, and_parts, or_cases}
 use Rattle.rapid_num.specs.Literal.{digit_value}
 use Rattle.rapid_num.specs.Characters.{is_printable}
@@ -118,3 +118,14 @@ first_cases b bs byte len false false q r e = first_plain b bs byte len q r (is_
 pub first_is : (bytes : List ℕ) (byte len : ℕ) → first_of bytes ≡ Some (byte, len) → IsFirst bytes byte len
 first_is [] byte len e = absurd cc
 first_is (b ∷ bs) byte len e = first_cases b bs byte len (eqb b 34) (eqb b 92) refl refl e
+
+some_bytes : (character : List ℕ) → is_character character ≡ true → 0 < length character
+some_bytes [] e = absurd cc
+some_bytes (b ∷ bs) e = omega arith
+
+-- what is found first has at least one byte
+pub first_fits : (bytes : List ℕ) (byte len : ℕ) → first_of bytes ≡ Some (byte, len) → (0 < len) × (len ≤ length bytes)
+first_fits bytes byte len e =
+    let f = first_is bytes byte len e in
+    let some : 0 < length f.character = some_bytes f.character f.is in
+    (omega (arith, f.len_is), omega (arith, f.len_is, ap length f.whole, length-append f.character f.rest))

@@ -1,3 +1,4 @@
 pub mod Firsts
 pub mod Continuing
 pub mod Behind
+pub mod Begun

@@ -1,9 +1,7 @@
 //! The text of a string token.
 
-ghost use Rattle.std.specs.Prelude.{◌≡◌, ◌≤◌, ◌+◌, ◌++◌, ℕ, List, [], ◌∷◌, IfSome, IsTrue, ◌↔◌, if◌then◌else◌, length};
-ghost use Rattle.rapid_model.specs.Printable.{takes};
-ghost use Rattle.string_texts.specs.Spelled.{Spells, text_behind, text_in};
-ghost use Rattle.string_texts.specs.Reading.{Continues, continued_by};
+ghost use Rattle.std.specs.Prelude.{◌≡◌, ◌≤◌, ℕ, List, [], ◌∷◌, IfSome, IsTrue, ◌↔◌, length};
+ghost use Rattle.string_texts.specs.Spelled.{Spells, text_in};
 
 use crate::first::first_of;
 use rapid_limits::LONGEST_STRING;
@@ -15,29 +13,21 @@ fn is_end(bytes: &[u8]) -> bool
     matches!(bytes, [34])
 }
 
-/// The text with one more byte. `None` if it already has 80 or the byte is outside 20 to 7E hexadecimal.
-fn with_byte(begun: Text, byte: u8) -> Option<Text>
-    ensures { result ≡ (if takes LONGEST_STRING begun byte then Some (begun ++ byte ∷ []) else None) }
+/// The text of the string whose opening quote comes before these bytes.
+fn text_after_quote(bytes: &[u8]) -> Option<Text>
+    ensures spelled { IfSome result (λ t. Spells (34 ∷ bytes.now) t) }
+    ensures only { (t : List ℕ) → Spells (34 ∷ bytes.now) t → length t ≤ LONGEST_STRING → result ≡ Some t }
+    ensures text { result ≡ text_in (34 ∷ bytes.now) }
 {
-    let mut text = begun;
-    if text.push(byte) { Some(text) } else { None }
-}
-
-/// The text so far, continued by the characters up to the closing quote.
-fn continued(bytes: &[u8], begun: Text) -> Option<Text>
-    ensures spelled { IfSome result (λ t. Continues bytes.now begun t) }
-    ensures only { (t : List ℕ) → Continues bytes.now begun t → length t ≤ LONGEST_STRING → result ≡ Some t }
-    ensures text { result ≡ continued_by begun (text_behind bytes.now) }
-{
-    match first_of(bytes) {
-        Some((byte, len)) => {
-            match with_byte(begun, byte) {
-                Some(text) => continued(&bytes[len..], text),
-                None => None,
-            }
+    let mut text = Text::new();
+    let mut left = bytes;
+    while let Some((byte, len)) = first_of(left) {
+        if !text.push(byte) {
+            return None;
         }
-        None => { if is_end(bytes) { Some(begun) } else { None } }
+        left = &left[len..];
     }
+    if is_end(left) { Some(text) } else { None }
 }
 
 /// The text of a string token: the characters between its quotes. Each is a byte from space to `~`, a doubled quote or
@@ -49,7 +39,7 @@ pub fn text_of(quoted: &[u8]) -> Option<Text>
     ensures text { result ≡ text_in quoted.now }
 {
     match quoted {
-        [34, rest @ ..] => continued(rest, Text::new()),
+        [34, rest @ ..] => text_after_quote(rest),
         _ => None,
     }
 }
