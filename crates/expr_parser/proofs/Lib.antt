@@ -3,3 +3,4 @@ pub mod Answered
 pub mod Known
 pub mod Taking
 pub mod Operands
+pub mod Bare

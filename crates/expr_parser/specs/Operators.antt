@@ -1,5 +1,5 @@
 -- The meaning of operators and of the words that are literals.
-use Rattle.std.specs.Prelude.{Bool, List, [], ◌∷◌, if◌then◌else◌}
+use Rattle.std.specs.Prelude.{Bool, List, [], ◌∷◌, map, if◌then◌else◌}
 use Rattle.rapid_lexer.specs.Tokens.{Lexeme}
 use Rattle.rapid_model.specs.declared.operator.Operator.{Operator}
 use Rattle.rapid_model.specs.declared.operator.Operator.TheVariants as operators
@@ -17,6 +17,9 @@ operator_rows =
     ∷ (signs.Plus, operators.Add) ∷ (signs.Minus, operators.Sub)
     ∷ (signs.Star, operators.Mul) ∷ (signs.Slash, operators.Div) ∷ (signs.Div, operators.IntDiv) ∷ (signs.Mod, operators.Mod)
     ∷ []
+
+abbrev pub operator_signs : List Sign
+operator_signs = map (λ row. row.0) operator_rows
 
 -- the operator of the first row with this sign
 abbrev pub operator_in : List (Sign × Operator) → Sign → Operator

@@ -1,14 +1,18 @@
 -- Reading expressions from left to right: the readers of the grammar's forms, which the functions are proved against.
-use Rattle.std.specs.Prelude.{ℕ, zero, suc, List, [], ◌∷◌, Option}
+use Rattle.std.specs.Prelude.{ℕ, zero, suc, Bool, false, List, [], ◌∷◌, Option, Result, Ok, Err}
 use mathlib.Core.Logic.{◌⊎◌, inl, inr}
 use Rattle.rapid_lexer.specs.Tokens.{Lexeme}
 use Rattle.rapid_model.specs.declared.operator.Operator.{Operator}
 use Rattle.raw_trees.specs.Plain.{PlainName, PlainExpr, PlainPlace, PlainArg, Place}
 use Rattle.rapid_forms.specs.declared.sign.Sign.{Sign}
 use Rattle.rapid_forms.specs.declared.sign.Sign.TheVariants as signs
-use Rattle.rapid_forms.specs.Reading.{Reader, one_read, seq_read, either_read, optional_read, many_read, made_read, nothing_read}
+use Rattle.rapid_forms.specs.declared.fault.SyntaxFault.{SyntaxFault}
+use Rattle.rapid_forms.specs.declared.tokens.Tokens.{Tokens}
+use Rattle.rapid_forms.specs.Signs.{begins_with}
+use Rattle.rapid_forms.specs.Reading.{Reader, rest_from, one_read, seq_read, either_read, optional_read, many_read, made_read, nothing_read}
 use Rattle.expr_parser.specs.declared.level.Level.{Level}
 use Rattle.expr_parser.specs.declared.level.Level.TheVariants as levels
+use Rattle.expr_parser.specs.Operators.{operator_signs}
 use Rattle.expr_parser.specs.Grammar.{name_tree, number_tree, quoted_tree, truth_tree, inner, behind, group_tree, aggregate_tree, invoke_tree, place_tree, needed_tree, option_tree, none_or, first_and_more, step_tree, chain_tree, relation_tree, signed_tree, negated_tree, comparisons}
 
 -- the signs that expressions and arguments can start with
@@ -18,6 +22,10 @@ expr_signs =
 
 abbrev pub arg_signs : List Sign
 arg_signs = signs.Backslash ∷ expr_signs
+
+-- NOT and the leading signs, which apply to the first operand of a chain
+abbrev pub prefixes : List Sign
+prefixes = signs.Not ∷ signs.Plus ∷ signs.Minus ∷ []
 
 pub record InsideRead : Type 0 where
   pub group : Reader PlainExpr
@@ -176,3 +184,8 @@ inside_read (suc n) = record {
 -- an expression within this many levels
 unfoldable pub expr_read : ℕ → Reader PlainExpr
 expr_read n = expr_of_read (inside_read n)
+
+-- a function returned a form, and the token after it is an operator
+abbrev pub is_followed : {X : Type 0} → Tokens → Result (X × ℕ) SyntaxFault → Bool
+is_followed tokens (Ok x) = begins_with operator_signs (rest_from tokens x.1)
+is_followed tokens (Err fault) = false

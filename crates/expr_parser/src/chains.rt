@@ -1,15 +1,15 @@
 //! Chains of operators.
 
-ghost use Rattle.std.specs.Prelude.{◌≡◌, ◌++◌, ◌∷◌, [], map, OnOk, IfErr};
-ghost use Rattle.rapid_forms.specs.Forms.{first_byte};
+ghost use Rattle.std.specs.Prelude.{◌≡◌, ◌++◌, ◌∷◌, [], false, map, OnOk, IfErr, Ok};
 ghost use Rattle.raw_trees.specs.Views.{view_expr, view_step};
 ghost use Rattle.rapid_forms.specs.declared.fault.SyntaxFault.TheVariants.{Memory};
-ghost use Rattle.rapid_forms.specs.Reading.{Gives, Makes, many_read, rest_from};
-ghost use Rattle.expr_parser.specs.Grammar.{chain_tree, comparisons};
-ghost use Rattle.expr_parser.specs.Reads.{expr_of_read, first_read, inside_read, level_read, negated_read, operand_read, operators_of, relation_read, signed_read, step_read, sum_read};
+ghost use Rattle.rapid_forms.specs.Reading.{Gives, many_read, rest_from};
+ghost use Rattle.rapid_forms.specs.Signs.{begins_with};
+ghost use Rattle.expr_parser.specs.Grammar.{comparisons};
+ghost use Rattle.expr_parser.specs.Reads.{expr_of_read, first_read, inside_read, is_followed, land_read, level_read, negated_read, operand_read, operators_of, prefixes, primary_read, relation_read, signed_read, step_read, sum_read, term_read};
 
 use crate::level::Level;
-use crate::operators::{is_minus, operator_of};
+use crate::operators::{is_minus, is_operator, is_prefix, operator_of};
 use crate::primary::primary;
 use rapid_forms::{Parser, Sign, SyntaxFault};
 use rapid_model::Operator;
@@ -36,9 +36,9 @@ pub fn expr<'a>(
     chain(p, at, left, Level::Or)
 }
 
-/// A chain of a level.
+/// A chain of a level. If it starts with neither NOT nor a sign, its first operand without operators is parsed at once,
+/// and the levels are gone through only if an operator follows.
 #[cycle(expr)]
-#[tactic(auto, using(crate::proofs::Operands::level_chain), unfolding(crate::specs::Reads::chain_read, rapid_forms::specs::Reading::made_read, rapid_forms::specs::Reading::seq_read, rapid_forms::specs::Reading::then_read))]
 fn chain<'a>(
     p: &Parser<'_, 'a>,
     at: usize,
@@ -47,26 +47,107 @@ fn chain<'a>(
 ) -> Result<(RawExpr<'a>, usize), SyntaxFault>
     ensures { Gives p.now.tokens view_expr result (level_read (inside_read left) level (rest_from p.now.tokens at)) }
 {
-    let (first, next) = first(p, at, left, level)?;
-    let (rest, end) = steps(p, next, left, level)?;
-    let chain = chained(p, at, first, rest)?;
-    Ok((chain, end))
+    if is_prefix(p.tokens.sign(at)) {
+        return prefixed(p, at, left, level);
+    }
+    let first = primary(p, at, left);
+    if !is_followed(p, &first) {
+        return first;
+    }
+    let (first, next) = first?;
+    behind(p, at, first, next, left, level)
 }
 
-/// One node for an operand and what follows it.
-fn chained<'a>(
+/// Whether there is a first operand, and an operator follows it.
+#[tactic(auto, unfolding(rapid_forms::specs::Signs::begins_with))]
+fn is_followed<'a>(p: &Parser<'_, 'a>, first: &Result<(RawExpr<'a>, usize), SyntaxFault>) -> bool
+    ensures { result ≡ is_followed p.now.tokens first.now }
+{
+    match first {
+        Ok((_, next)) => is_operator(p.tokens.sign(*next)),
+        Err(_) => false,
+    }
+}
+
+/// A chain of a level that may start with NOT or a sign.
+#[cycle(expr)]
+#[tactic(auto, using(crate::proofs::Operands::level_chain), unfolding(crate::specs::Reads::chain_read, rapid_forms::specs::Reading::made_read, rapid_forms::specs::Reading::seq_read, rapid_forms::specs::Reading::then_read))]
+fn prefixed<'a>(
+    p: &Parser<'_, 'a>,
+    at: usize,
+    left: u32,
+    level: Level,
+) -> Result<(RawExpr<'a>, usize), SyntaxFault>
+    ensures { Gives p.now.tokens view_expr result (level_read (inside_read left) level (rest_from p.now.tokens at)) }
+{
+    let (first, next) = first(p, at, left, level)?;
+    chain_behind(p, at, first, next, left, level)
+}
+
+/// A chain of a level that starts with neither NOT nor a sign, after its first operand without operators.
+#[cycle(expr)]
+fn behind<'a>(
     p: &Parser<'_, 'a>,
     at: usize,
     first: RawExpr<'a>,
-    rest: Vec<(Operator, RawExpr<'a>)>,
-) -> Result<RawExpr<'a>, SyntaxFault>
-    ensures { Makes view_expr result (chain_tree (first_byte (rest_from p.now.tokens at)) (view_expr first.entry, map view_step rest.entry.items)) }
+    next: usize,
+    left: u32,
+    level: Level,
+) -> Result<(RawExpr<'a>, usize), SyntaxFault>
+    requires plain { begins_with prefixes (rest_from p.now.tokens at) ≡ false }
+    requires read { primary_read (inside_read left) (rest_from p.now.tokens at) ≡ Ok (view_expr first, rest_from p.now.tokens next) }
+    ensures { Gives p.now.tokens view_expr result (level_read (inside_read left) level (rest_from p.now.tokens at)) }
 {
-    if rest.is_empty() {
-        return Ok(first);
+    let (term, after) = chain_behind(p, at, first, next, left, Level::Term)?;
+    match level {
+        Level::Or => {
+            let (relations, end) = relations_behind(p, at, term, after, left)?;
+            chain_behind(p, at, relations, end, left, Level::Or)
+        }
+        Level::And => relations_behind(p, at, term, after, left),
+        Level::Sum => chain_behind(p, at, term, after, left, Level::Sum),
+        Level::Term => Ok((term, after)),
     }
+}
+
+/// A chain of relations that starts with no sign, after its first term.
+#[cycle(expr)]
+fn relations_behind<'a>(
+    p: &Parser<'_, 'a>,
+    at: usize,
+    term: RawExpr<'a>,
+    next: usize,
+    left: u32,
+) -> Result<(RawExpr<'a>, usize), SyntaxFault>
+    requires plain { begins_with prefixes (rest_from p.now.tokens at) ≡ false }
+    requires read { term_read (inside_read left) (rest_from p.now.tokens at) ≡ Ok (view_expr term, rest_from p.now.tokens next) }
+    ensures { Gives p.now.tokens view_expr result (land_read (inside_read left) (rest_from p.now.tokens at)) }
+{
+    let (sum, after) = chain_behind(p, at, term, next, left, Level::Sum)?;
+    let (relation, end) = relation_behind(p, at, sum, after, left)?;
+    chain_behind(p, at, relation, end, left, Level::And)
+}
+
+/// A chain of a level, after its first operand. If no operator follows, it is the operand.
+#[cycle(expr)]
+#[tactic(auto, using(crate::proofs::Operands::level_chain), unfolding(crate::specs::Reads::chain_read, rapid_forms::specs::Reading::made_read, rapid_forms::specs::Reading::seq_read, rapid_forms::specs::Reading::then_read))]
+fn chain_behind<'a>(
+    p: &Parser<'_, 'a>,
+    at: usize,
+    first: RawExpr<'a>,
+    next: usize,
+    left: u32,
+    level: Level,
+) -> Result<(RawExpr<'a>, usize), SyntaxFault>
+    requires read { first_read (inside_read left) level (rest_from p.now.tokens at) ≡ Ok (view_expr first, rest_from p.now.tokens next) }
+    ensures { Gives p.now.tokens view_expr result (level_read (inside_read left) level (rest_from p.now.tokens at)) }
+{
+    if !p.tokens.sees(next, level.operators()) {
+        return Ok((first, next));
+    }
+    let (rest, end) = steps(p, next, left, level)?;
     let chain = RawExpr::chain(p.alloc, p.tokens.byte_at(at), first, rest)?;
-    Ok(chain)
+    Ok((chain, end))
 }
 
 /// The first operand of a chain of a level.
@@ -192,7 +273,7 @@ fn signed<'a>(p: &Parser<'_, 'a>, at: usize, left: u32) -> Result<(RawExpr<'a>, 
 
 /// A sum, or a comparison of two.
 #[cycle(expr)]
-#[tactic(auto, unfolding(crate::specs::Reads::relation_read, rapid_forms::specs::Reading::made_read, rapid_forms::specs::Reading::seq_read, rapid_forms::specs::Reading::optional_read, rapid_forms::specs::Reading::then_read))]
+#[tactic(auto, unfolding(crate::specs::Reads::relation_read, rapid_forms::specs::Reading::made_read, rapid_forms::specs::Reading::seq_read, rapid_forms::specs::Reading::then_read))]
 fn relation<'a>(
     p: &Parser<'_, 'a>,
     at: usize,
@@ -201,6 +282,22 @@ fn relation<'a>(
     ensures { Gives p.now.tokens view_expr result (relation_read (inside_read left) (rest_from p.now.tokens at)) }
 {
     let (first, next) = chain(p, at, left, Level::Sum)?;
+    relation_behind(p, at, first, next, left)
+}
+
+/// A sum, or a comparison of two, after the first sum.
+#[cycle(expr)]
+#[tactic(auto, unfolding(crate::specs::Reads::relation_read, rapid_forms::specs::Reading::made_read, rapid_forms::specs::Reading::seq_read, rapid_forms::specs::Reading::optional_read, rapid_forms::specs::Reading::then_read))]
+fn relation_behind<'a>(
+    p: &Parser<'_, 'a>,
+    at: usize,
+    first: RawExpr<'a>,
+    next: usize,
+    left: u32,
+) -> Result<(RawExpr<'a>, usize), SyntaxFault>
+    requires read { sum_read (inside_read left) (rest_from p.now.tokens at) ≡ Ok (view_expr first, rest_from p.now.tokens next) }
+    ensures { Gives p.now.tokens view_expr result (relation_read (inside_read left) (rest_from p.now.tokens at)) }
+{
     if !p.tokens.sees(next, &COMPARISONS) {
         return Ok((first, next));
     }

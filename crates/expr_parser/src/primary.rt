@@ -9,8 +9,8 @@ ghost use Rattle.expr_parser.specs.Reads.{inside_read, mark_read, name_read, nam
 
 use crate::args::call;
 use crate::levels::{aggregate, group, index};
-use crate::operators::is_true;
-use rapid_forms::{Parser, Sign, SyntaxFault};
+use crate::operators::{is_true, is_truth};
+use rapid_forms::{Parser, Sign, SyntaxFault, is_seen};
 use raw_trees::{RawExpr, RawName, RawPlace};
 
 /// The name that token `at` is, and the number of the next token.
@@ -28,7 +28,7 @@ pub fn name<'a>(p: &Parser<'_, 'a>, at: usize) -> Result<(RawName<'a>, usize), S
 
 /// An operand without operators.
 #[cycle(expr)]
-#[tactic(auto, unfolding(crate::specs::Reads::primary_read, rapid_forms::specs::Reading::either_read))]
+#[tactic(auto, unfolding(crate::specs::Reads::primary_read, rapid_forms::specs::Reading::either_read, rapid_forms::specs::Signs::begins_with))]
 pub(crate) fn primary<'a>(
     p: &Parser<'_, 'a>,
     at: usize,
@@ -36,19 +36,20 @@ pub(crate) fn primary<'a>(
 ) -> Result<(RawExpr<'a>, usize), SyntaxFault>
     ensures { Gives p.now.tokens view_expr result (primary_read (inside_read left) (rest_from p.now.tokens at)) }
 {
-    if p.tokens.sees(at, &[Sign::Number]) {
+    let sign = p.tokens.sign(at);
+    if is_seen(sign, Sign::Number) {
         return number(p, at);
     }
-    if p.tokens.sees(at, &[Sign::Quoted]) {
+    if is_seen(sign, Sign::Quoted) {
         return quoted(p, at);
     }
-    if p.tokens.sees(at, &[Sign::True, Sign::False]) {
+    if is_truth(sign) {
         return truth(p, at);
     }
-    if p.tokens.sees(at, &[Sign::OpenParenthesis]) {
+    if is_seen(sign, Sign::OpenParenthesis) {
         return group(p, at, left);
     }
-    if p.tokens.sees(at, &[Sign::OpenBracket]) {
+    if is_seen(sign, Sign::OpenBracket) {
         return aggregate(p, at, left);
     }
     named(p, at, left)
@@ -80,7 +81,7 @@ fn truth<'a>(p: &Parser<'_, 'a>, at: usize) -> Result<(RawExpr<'a>, usize), Synt
 
 /// A name and what follows it: arguments in parentheses, or what makes it a place.
 #[cycle(expr)]
-#[tactic(auto, unfolding(crate::specs::Reads::named_read, rapid_forms::specs::Reading::made_read, rapid_forms::specs::Reading::seq_read, rapid_forms::specs::Reading::either_read, rapid_forms::specs::Reading::then_read))]
+#[tactic(auto, using(crate::proofs::Bare::no_parts), unfolding(crate::specs::Reads::named_read, rapid_forms::specs::Reading::made_read, rapid_forms::specs::Reading::seq_read, rapid_forms::specs::Reading::either_read, rapid_forms::specs::Reading::then_read))]
 fn named<'a>(p: &Parser<'_, 'a>, at: usize, left: u32) -> Result<(RawExpr<'a>, usize), SyntaxFault>
     ensures { Gives p.now.tokens view_expr result (named_read (inside_read left) (rest_from p.now.tokens at)) }
 {
@@ -88,6 +89,10 @@ fn named<'a>(p: &Parser<'_, 'a>, at: usize, left: u32) -> Result<(RawExpr<'a>, u
     if p.tokens.sees(next, &[Sign::OpenParenthesis]) {
         let (args, end) = call(p, next, left)?;
         return Ok((RawExpr::invoke(p.tokens.byte_at(at), name, args), end));
+    }
+    if !p.tokens.sees(next, &[Sign::OpenBrace, Sign::Dot]) {
+        let place = RawPlace::new(p.alloc, name, None, Vec::new(p.alloc))?;
+        return Ok((RawExpr::place(p.tokens.byte_at(at), place), next));
     }
     let ((index, parts), end) = place_parts(p, next, left)?;
     let place = RawPlace::new(p.alloc, name, index, parts)?;

@@ -73,8 +73,3 @@ abbrev pub Gives : {X A : Type 0} → Tokens → (X → A) → Result (X × ℕ)
 Gives tokens view (Ok x) read = read ≡ Ok (view x.0, rest_from tokens x.1)
 Gives tokens view (Err Memory) read = Unit {0}
 Gives tokens view (Err fault) read = (halt : Halt) × (read ≡ Err halt) × (fault ≡ fault_of tokens.end halt)
-
--- a tree made of others, or out of memory
-abbrev pub Makes : {X A : Type 0} → (X → A) → Result X SyntaxFault → A → Type 0
-Makes view (Ok x) tree = view x ≡ tree
-Makes view (Err fault) tree = fault ≡ Memory

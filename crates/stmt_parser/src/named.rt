@@ -3,13 +3,14 @@
 ghost use Rattle.std.specs.Prelude.{Ok};
 ghost use Rattle.raw_trees.specs.Views.{view_name, view_stmt};
 ghost use Rattle.rapid_forms.specs.Reading.{Gives, rest_from, then_read};
-ghost use Rattle.expr_parser.specs.Reads.{inside_read, mark_read};
+ghost use Rattle.expr_parser.specs.Parts.{view_parts};
+ghost use Rattle.expr_parser.specs.Reads.{inside_read, mark_read, parts_read};
 ghost use Rattle.stmt_parser.specs.Grammar.{call_tree, label_tree};
 ghost use Rattle.stmt_parser.specs.Reads.{assigned_read, assigned_tree, behind_name_read, called_read, named_read, named_simple_read, named_simple_tree};
 
 use expr_parser::{args_if_any, expr, name, place_parts};
 use rapid_forms::{Parser, Sign, SyntaxFault};
-use raw_trees::{RawName, RawPlace, RawStmt};
+use raw_trees::{RawExpr, RawName, RawPlace, RawStmt};
 
 /// A label, an assignment or a call.
 #[tactic(auto, using(crate::proofs::Begins::name_placed), unfolding(crate::specs::Reads::named_read, rapid_forms::specs::Reading::made_read, rapid_forms::specs::Reading::seq_read, rapid_forms::specs::Reading::then_read, rapid_forms::specs::Reading::either_read))]
@@ -71,6 +72,21 @@ fn behind_name<'a>(
     }
 }
 
+/// What follows a name in a place, which is mostly nothing.
+#[tactic(auto, using(expr_parser::proofs::Bare::no_parts))]
+fn parts_if_any<'a>(
+    p: &Parser<'_, 'a>,
+    at: usize,
+    left: u32,
+) -> Result<((Option<RawExpr<'a>>, Vec<RawName<'a>>), usize), SyntaxFault>
+    ensures { Gives p.now.tokens view_parts result (parts_read (inside_read left) (rest_from p.now.tokens at)) }
+{
+    if !p.tokens.sees(at, &[Sign::OpenBrace, Sign::Dot]) {
+        return Ok(((None, Vec::new(p.alloc)), at));
+    }
+    place_parts(p, at, left)
+}
+
 #[tactic(auto, unfolding(crate::specs::Reads::assigned_read, rapid_forms::specs::Reading::seq_read, rapid_forms::specs::Reading::then_read))]
 fn assignment<'a>(
     p: &Parser<'_, 'a>,
@@ -80,7 +96,7 @@ fn assignment<'a>(
 ) -> Result<(RawStmt<'a>, usize), SyntaxFault>
     ensures { Gives p.now.tokens view_stmt result (then_read (assigned_read (inside_read left) (rest_from p.now.tokens at)) λ x rest. Ok (assigned_tree name.entry.at (view_name name.entry, x), rest)) }
 {
-    let ((index, parts), after) = place_parts(p, at, left)?;
+    let ((index, parts), after) = parts_if_any(p, at, left)?;
     let place = RawPlace::new(p.alloc, name, index, parts)?;
     let (_assign, next) = p.tokens.take(after, &[Sign::Assign])?;
     let (value, last) = expr(p, next, left)?;

@@ -12,11 +12,11 @@ use Rattle.expr_parser.proofs.+expr.Given as goal
 -- The measure is the levels left, and within a level a rank by who calls whom: lowest the functions that open a level,
 -- then operands, the chains of each level of operators, expressions, and lists of them.
 
-abbrev height : Level → ℕ
-height levels.Term = 4
-height levels.Sum = 10
-height levels.And = 16
-height levels.Or = 22
+abbrev pub height : Level → ℕ
+height levels.Term = 0
+height levels.Sum = 8
+height levels.And = 18
+height levels.Or = 26
 
 abbrev pub decreases-levels::group : goal.decreases-levels::group
 decreases-levels::group l = 50 * l.left
@@ -49,58 +49,73 @@ abbrev pub decreases-primary::primary : goal.decreases-primary::primary
 decreases-primary::primary l = 50 * l.left + 4
 
 abbrev pub decreases-chains::signed : goal.decreases-chains::signed
-decreases-chains::signed l = 50 * l.left + 9
+decreases-chains::signed l = 50 * l.left + 12
 
 abbrev pub decreases-chains::comparison : goal.decreases-chains::comparison
-decreases-chains::comparison l = 50 * l.left + 15
+decreases-chains::comparison l = 50 * l.left + 20
 
 abbrev pub decreases-chains::relation : goal.decreases-chains::relation
-decreases-chains::relation l = 50 * l.left + 16
+decreases-chains::relation l = 50 * l.left + 22
+
+abbrev pub decreases-chains::relation_behind : goal.decreases-chains::relation_behind
+decreases-chains::relation_behind l = 50 * l.left + 21
+
+abbrev pub decreases-chains::relations_behind : goal.decreases-chains::relations_behind
+decreases-chains::relations_behind l = 50 * l.left + 27
 
 abbrev pub decreases-chains::negated : goal.decreases-chains::negated
-decreases-chains::negated l = 50 * l.left + 21
+decreases-chains::negated l = 50 * l.left + 30
 
 abbrev pub decreases-chains::expr : goal.decreases-chains::expr
-decreases-chains::expr l = 50 * l.left + 27
+decreases-chains::expr l = 50 * l.left + 38
 
 abbrev pub decreases-levels::more_expr : goal.decreases-levels::more_expr
-decreases-levels::more_expr l = 50 * l.left + 28
+decreases-levels::more_expr l = 50 * l.left + 39
 
 abbrev pub decreases-levels::exprs : goal.decreases-levels::exprs
-decreases-levels::exprs l = 50 * l.left + 29
+decreases-levels::exprs l = 50 * l.left + 40
 
 abbrev pub decreases-args::value : goal.decreases-args::value
-decreases-args::value l = 50 * l.left + 28
+decreases-args::value l = 50 * l.left + 39
 
 abbrev pub decreases-args::value_if_any : goal.decreases-args::value_if_any
-decreases-args::value_if_any l = 50 * l.left + 29
+decreases-args::value_if_any l = 50 * l.left + 40
 
 abbrev pub decreases-args::option : goal.decreases-args::option
-decreases-args::option l = 50 * l.left + 30
+decreases-args::option l = 50 * l.left + 41
 
 abbrev pub decreases-args::arg : goal.decreases-args::arg
-decreases-args::arg l = 50 * l.left + 31
+decreases-args::arg l = 50 * l.left + 42
 
 abbrev pub decreases-args::later_arg : goal.decreases-args::later_arg
-decreases-args::later_arg l = 50 * l.left + 32
+decreases-args::later_arg l = 50 * l.left + 43
 
 abbrev pub decreases-args::some_args : goal.decreases-args::some_args
-decreases-args::some_args l = 50 * l.left + 33
+decreases-args::some_args l = 50 * l.left + 44
 
 abbrev pub decreases-chains::first : goal.decreases-chains::first
-decreases-chains::first l = 50 * l.left + (height l.level + 1)
+decreases-chains::first l = 50 * l.left + (height l.level + 5)
 
 abbrev pub decreases-chains::operand : goal.decreases-chains::operand
-decreases-chains::operand l = 50 * l.left + (height l.level + 1)
+decreases-chains::operand l = 50 * l.left + (height l.level + 5)
 
 abbrev pub decreases-chains::step : goal.decreases-chains::step
-decreases-chains::step l = 50 * l.left + (height l.level + 2)
+decreases-chains::step l = 50 * l.left + (height l.level + 6)
 
 abbrev pub decreases-chains::steps : goal.decreases-chains::steps
-decreases-chains::steps l = 50 * l.left + (height l.level + 3)
+decreases-chains::steps l = 50 * l.left + (height l.level + 7)
+
+abbrev pub decreases-chains::chain_behind : goal.decreases-chains::chain_behind
+decreases-chains::chain_behind l = 50 * l.left + (height l.level + 8)
+
+abbrev pub decreases-chains::prefixed : goal.decreases-chains::prefixed
+decreases-chains::prefixed l = 50 * l.left + (height l.level + 9)
+
+abbrev pub decreases-chains::behind : goal.decreases-chains::behind
+decreases-chains::behind l = 50 * l.left + (height l.level + 10)
 
 abbrev pub decreases-chains::chain : goal.decreases-chains::chain
-decreases-chains::chain l = 50 * l.left + (height l.level + 4)
+decreases-chains::chain l = 50 * l.left + (height l.level + 11)
 
 abbrev pub invariant-chains::steps-loop-level : goal.invariant-chains::steps-loop-level
 invariant-chains::steps-loop-level l =
