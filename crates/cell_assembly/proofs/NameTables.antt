@@ -1,11 +1,9 @@
 -- The tables of persistents' and meetings' numbers by name, with one more entry.
-use Rattle.std.proofs.Common.{◌≡◌, ℕ, suc, ◌+◌, Bool, true, false, cond, not, ◌&&◌, nat_lt, List, [], ◌∷◌, ◌++◌, length, Option, Some, None, is_none, is_some, option_map, if◌then◌else◌, refl, ap, sym, ◌∙◌, true≢false, arith}
-use Rattle.std.specs.List.{position, position_or_len}
+use Rattle.std.proofs.Common.{◌≡◌, ℕ, true, false, ◌&&◌, List, [], ◌∷◌, ◌++◌, length, Option, Some, None, is_none, is_some, if◌then◌else◌, refl, ap, sym, ◌∙◌, true≢false}
 use Rattle.std.specs.Option.{option_or}
 use Rattle.std.specs.Str.{str_eq_ignore_ascii_case}
-use Rattle.std.proofs.lemmas.Bool.{lt-ltb}
-use Rattle.std.proofs.lemmas.Bool.Decides.{nat_tests}
 use Rattle.name_tables.specs.Names.{NameList, found_in, entered, Finds, Enters}
+use Rattle.name_tables.proofs.Firsts.{position_cons}
 use Rattle.name_tables.proofs.Places.{enters, index_last, index_entered}
 use Rattle.cell_assembly.specs.Cells
 
@@ -16,17 +14,6 @@ is_shared (Some task) e = absurd (true≢false e)
 pub enters_global : (table new : NameList ℕ) (p : Cells.PersInfo) (number : ℕ) → is_some p.owner ≡ false → new ≡ entered p.name number table → Enters table new (λ name. Cells.is_global name p) number
 enters_global table new p number shared is name =
     ap (found_in name) is ∙ enters p.name number table name ∙ sym (ap (λ none. option_or (found_in name table) (if none && str_eq_ignore_ascii_case name p.name then Some number else None)) (is_shared p.owner shared))
-
--- the first index that passes, past one more element
-one_later : (n m : ℕ) → (if nat_lt (1 + n) (suc m) then Some (1 + n) else None) ≡ option_map suc (if nat_lt n m then Some n else None)
-one_later n m = grind (arith, nat_tests)
-
-position_cons : {X : Type 0} (p : X → Bool) (x : X) (xs : List X) → position p (x ∷ xs) ≡ (if p x then Some 0 else option_map suc (position p xs))
-position_cons p x xs = by (p x)
-  where
-    by : (t : Bool) → let first : ℕ = cond (not t) (1 + position_or_len p xs) 0 in cond (nat_lt first (suc (length xs))) (Some first) None ≡ cond t (Some 0) (option_map suc (position p xs))
-    by true = ap (λ (t : Bool). cond {A = Option ℕ} t (Some 0) None) (lt-ltb 0 (suc (length xs)) (omega arith))
-    by false = one_later (position_or_len p xs) (length xs)
 
 -- one more persistent, and its entry in the table
 pub pers_entered : (table new : NameList ℕ) (ps : List Cells.PersInfo) (p : Cells.PersInfo) (number : ℕ) → Finds table (λ name. Cells.global_number name ps) → Enters table new (λ name. Cells.is_global name p) number → number ≡ length ps

@@ -7,5 +7,6 @@ pub mod ListAt
 pub mod LoopRows
 pub mod Meanings
 pub mod Rowed
+pub mod Shared
 pub mod Typed
 pub mod Within

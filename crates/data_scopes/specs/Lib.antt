@@ -9,3 +9,4 @@ pub mod Naming
 pub mod Called
 pub mod Numbered
 pub mod Meetings
+pub mod Shared

@@ -11,6 +11,7 @@ use crate::numbers::{is_const, is_pers};
 use crate::own::is_own;
 use crate::sorts::sort_of;
 use crate::tables::NameTables;
+use name_tables::NameKey;
 use rapid_model::{Sort, has_values};
 use raw_trees::{RawDatum, RawName};
 use rule_checks::{Spot, TypeFault, TypeRule, broken, must};
@@ -88,14 +89,15 @@ pub(crate) fn item_name_rules(
 ) -> Result<(), TypeFault>
     ensures { Gives (λ u. u) result (Declarations.item_name_rules tables.now spot local own (view_name name.now)) }
 {
-    let meant = item_meant(tables, spot.module, local, name.text);
+    let name = &NameKey::new(name.text);
+    let meant = item_meant(tables, spot.module, local, name);
     must(is_own(own, meant), spot, TypeRule::NameTwice)?;
-    let holds = tables.outside(name.text).is_none();
+    let holds = tables.outside(name).is_none();
     must(holds, spot, TypeRule::NameTaken)
 }
 
 /// What the name means in the scope of a module's items.
-fn item_meant(tables: &NameTables, number: u32, local: bool, name: &[u8]) -> Option<Meant>
+fn item_meant(tables: &NameTables, number: u32, local: bool, name: &NameKey<'_>) -> Option<Meant>
     ensures { result ≡ meant_in name.now (Declarations.item_scope tables.now number local) }
 {
     if local {

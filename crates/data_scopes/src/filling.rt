@@ -6,6 +6,7 @@ ghost use Rattle.data_scopes.specs.Numbers;
 ghost use Rattle.data_scopes.specs.Scopes.{declare, loop_rows};
 ghost use Rattle.rule_checks.specs.declared.fault.TypeFault.TheVariants.{Memory};
 
+use crate::builtin_names::declare_predefined;
 use crate::counts::Counts;
 use crate::loop_row::LoopRow;
 use crate::loops::loops_in_routine;
@@ -234,18 +235,47 @@ fn push_items_rows(
     Ok(())
 }
 
+/// Declares the signals.
+fn declare_signals(signals: &[SignalRow], scope: &mut NameTable<Meant>) -> Result<(), TypeFault>
+    ensures ok { OnOk result (scope.new ≡ Numbers.signal_scope 0 signals.now scope.old) }
+    ensures err { IfErr result (λ e. e ≡ Memory) }
+{
+    let mut number = 0;
+    for row in signals {
+        scope.enter(row.name.bytes(), Meant::Signal(number))?;
+        number = number_after(number)?;
+    }
+    Ok(())
+}
+
 /// The signals.
 fn signal_scope(alloc: Global, signals: &[SignalRow]) -> Result<NameTable<Meant>, TypeFault>
     ensures ok { IfOk result (λ s. s ≡ Numbers.signal_scope 0 signals.now []) }
     ensures err { IfErr result (λ e. e ≡ Memory) }
 {
     let mut scope = NameTable::new(alloc);
-    let mut number = 0;
-    for row in signals {
-        scope.enter(row.name.bytes(), Meant::Signal(number))?;
-        number = number_after(number)?;
-    }
+    declare_signals(signals, &mut scope)?;
     Ok(scope)
+}
+
+/// The tables of these scopes. The signals and the predefined names come after the items.
+fn with_outside(
+    alloc: Global,
+    items: NameTable<Meant>,
+    own: Vec<NameTable<Meant>>,
+    inner: Vec<NameTable<Meant>>,
+    loops: Vec<Vec<LoopRow>>,
+    signals: &[SignalRow],
+) -> Result<NameTables, TypeFault>
+    ensures ok { IfOk result (λ t. t ≡ record { task = items; own = own.items; inner = inner.items; loops = loop_rows loops.items; signals = Numbers.signal_scope 0 signals.now [] }) }
+    ensures err { IfErr result (λ e. e ≡ Memory) }
+{
+    let count = items.len();
+    let mut shared = items;
+    declare_signals(signals, &mut shared)?;
+    declare_predefined(&mut shared)?;
+    let signals = signal_scope(alloc, signals)?;
+    Ok(NameTables::new(shared, count, own, inner, loops, signals))
 }
 
 /// The names of a task's modules, with these signals.
@@ -269,6 +299,5 @@ pub(crate) fn tables_of(
         push_items_rows(alloc, &unit.items, &mut loops)?;
         counts = after_items(counts, &unit.items)?;
     }
-    let signals = signal_scope(alloc, signals)?;
-    Ok(NameTables::new(task, own, inner, loops, signals))
+    with_outside(alloc, task, own, inner, loops, signals)
 }

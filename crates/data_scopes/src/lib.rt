@@ -1,6 +1,7 @@
 //! What each name means at each spot of a task's modules, and the first wrong declaration.
 #![tactic(auto)]
 
+mod builtin_names;
 mod checking;
 mod counts;
 mod data_row;

@@ -16,6 +16,7 @@ use crate::numbers::{
 };
 use crate::own::is_own;
 use crate::tables::NameTables;
+use name_tables::NameKey;
 use rapid_model::{Mode, Sort, has_values};
 use raw_trees::{RawDatum, RawItem, RawModule, RawName, RawParam, RawRoutine};
 use rule_checks::{TypeFault, TypeRule, must};
@@ -60,7 +61,7 @@ fn param_rules(
     let spot = spot_of(number, Some(routine), &param.sort);
     let sort = sort_at(tables, spot, &param.sort)?;
     must(takes_sort(param.mode, sort), spot, TypeRule::TypeClash)?;
-    let meant = tables.inner(routine, param.name.text);
+    let meant = tables.inner(routine, &NameKey::new(param.name.text));
     let holds = is_own(param_meant(index, param.mode), meant);
     must(
         holds,
@@ -98,7 +99,7 @@ fn local_rules(
     ensures { Gives (λ u. u) result (Declarations.local_rules tables.now number routine index consts (view_datum datum.now)) }
 {
     datum_sort(tables, number, Some(routine), datum)?;
-    let meant = tables.inner(routine, datum.name.text);
+    let meant = tables.inner(routine, &NameKey::new(datum.name.text));
     let holds = is_own(local_meant(index, consts, datum), meant);
     must(
         holds,

@@ -1,8 +1,9 @@
-ghost use Rattle.std.specs.Prelude.{◌≡◌, ◌≤◌, ◌<◌, ◌↔◌, [], length, OnOk, OnErr, IfErr};
+ghost use Rattle.std.specs.Prelude.{◌≡◌, ◌≤◌, ◌<◌, ◌↔◌, [], length, take, OnOk, OnErr, IfErr};
 ghost use Rattle.name_tables.specs.Names.{found_in, entered};
 ghost use Rattle.name_tables.specs.declared.not_entered.NotEntered.TheVariants.{Long};
 
 use crate::key::{Key, key_of};
+use crate::name_key::NameKey;
 use crate::not_entered::NotEntered;
 use indexmap::IndexMap;
 use rapid_limits::LONGEST_NAME;
@@ -42,12 +43,37 @@ impl<V: Copy + Drop> NameTable<V> {
     pub fn find(&self, name: &[u8]) -> Option<V>
         ensures { result ≡ found_in name.now self.now }
     {
+        if self.entries.is_empty() {
+            return None;
+        }
+        self.find_key(&NameKey::new(name))
+    }
+
+    /// As `find`, with a key that can be looked up in other tables too.
+    pub fn find_key(&self, name: &NameKey<'_>) -> Option<V>
+        ensures { result ≡ found_in name.now self.now }
+    {
         let entries = &self.entries;
         if entries.is_empty() {
             return None;
         }
-        let key = key_of(name)?;
-        entries.get(&key).copied()
+        let key = name.key()?;
+        entries.get(key).copied()
+    }
+
+    /// The value of the name, if it is among the `count` names that were entered first.
+    pub fn find_among_first(&self, count: usize, name: &NameKey<'_>) -> Option<V>
+        ensures { result ≡ found_in name.now (take count self.now) }
+    {
+        let (index, _, value) = self.entries.get_full(name.key()?)?;
+        if index < count { Some(*value) } else { None }
+    }
+
+    /// How many names there are.
+    pub fn len(&self) -> usize
+        ensures { result ≡ length self.now }
+    {
+        self.entries.len()
     }
 
     /// Enters a name. If the table already has it, the old value stays.
@@ -60,10 +86,7 @@ impl<V: Copy + Drop> NameTable<V> {
         let Some(key) = key_of(name) else {
             return Err(NotEntered::Long);
         };
-        if self.entries.contains_key(&key) {
-            return Ok(());
-        }
-        self.entries.insert(key, value)?;
+        self.entries.entry(key)?.or_insert(value);
         Ok(())
     }
 }

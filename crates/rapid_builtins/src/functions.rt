@@ -1,7 +1,7 @@
 //! The predefined functions (RAPID Instructions, Functions and Data types).
 
-ghost use Rattle.std.specs.Prelude.{◌≡◌};
-ghost use Rattle.rapid_builtins.specs.Names.{function_of};
+ghost use Rattle.std.specs.Prelude.{◌≡◌, map};
+ghost use Rattle.rapid_builtins.specs.Names.{function_of, function_rows};
 
 use crate::table::meant_by;
 use rapid_model::Function;
@@ -24,4 +24,11 @@ pub fn function(name: &[u8]) -> Option<Function>
     ensures { result ≡ function_of name.now }
 {
     meant_by(&FUNCTIONS, name)
+}
+
+/// The names of the functions, and what each stands for.
+pub fn function_rows() -> &'static [(&'static [u8], Function)]
+    ensures { map (λ row. (row.0.now, row.1)) result.now ≡ function_rows }
+{
+    &FUNCTIONS
 }

@@ -1,7 +1,7 @@
 //! The predefined instructions (RAPID Instructions, Functions and Data types).
 
-ghost use Rattle.std.specs.Prelude.{◌≡◌};
-ghost use Rattle.rapid_builtins.specs.Names.{instruction_of};
+ghost use Rattle.std.specs.Prelude.{◌≡◌, map};
+ghost use Rattle.rapid_builtins.specs.Names.{instruction_of, instruction_rows};
 
 use crate::table::meant_by;
 use rapid_model::Instruction;
@@ -46,4 +46,11 @@ pub fn instruction(name: &[u8]) -> Option<Instruction>
     ensures { result ≡ instruction_of name.now }
 {
     meant_by(&INSTRUCTIONS, name)
+}
+
+/// The names of the instructions, and what each stands for.
+pub fn instruction_rows() -> &'static [(&'static [u8], Instruction)]
+    ensures { map (λ row. (row.0.now, row.1)) result.now ≡ instruction_rows }
+{
+    &INSTRUCTIONS
 }

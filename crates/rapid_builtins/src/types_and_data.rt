@@ -1,7 +1,7 @@
 //! The predefined types and data (RAPID Instructions, Functions and Data types; RAPID Overview, error recovery).
 
-ghost use Rattle.std.specs.Prelude.{◌≡◌};
-ghost use Rattle.rapid_builtins.specs.Names.{is_predefined, predefined_of};
+ghost use Rattle.std.specs.Prelude.{◌≡◌, ◌++◌, map};
+ghost use Rattle.rapid_builtins.specs.Names.{data_rows, is_predefined, predefined_of, type_rows};
 
 use crate::functions::function;
 use crate::instructions::instruction;
@@ -72,6 +72,13 @@ pub fn predefined(name: &[u8]) -> Option<Predefined>
     ensures { result ≡ predefined_of name.now }
 {
     meant_by(&TYPES_AND_DATA, name)
+}
+
+/// The names of the types and data, and what each stands for.
+pub fn predefined_rows() -> &'static [(&'static [u8], Predefined)]
+    ensures { map (λ row. (row.0.now, row.1)) result.now ≡ type_rows ++ data_rows }
+{
+    &TYPES_AND_DATA
 }
 
 /// Whether a name is predefined: the name of an instruction, a function, a type or a datum. Names are case-insensitive

@@ -10,4 +10,4 @@ returns-in_err-scope c =
 pub returns : goal.returns
 returns c =
     let l = c.in_ok-scope.ensures.lookup in
-    c.find.ensures ∙ ap (meant_in c.args.name.now) (sym (list_at-there c.args.scopes.now c.args.number c.in_ok-scope.scope.now l.3.0 l.1))
+    c.find_key.ensures ∙ ap (meant_in c.args.name.now) (sym (list_at-there c.args.scopes.now c.args.number c.in_ok-scope.scope.now l.3.0 l.1))
