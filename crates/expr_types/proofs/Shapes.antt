@@ -9,7 +9,8 @@ use Rattle.raw_trees.specs.declared.raw_expr.RawArg.{RawArg, Needed as NeededArg
 use Rattle.raw_trees.specs.declared.raw_expr.RawExpr.{RawExpr}
 use Rattle.raw_trees.specs.declared.raw_expr.RawExprForm.{Aggregate, Call, Chain}
 use Rattle.raw_trees.specs.declared.raw_name.RawName.{RawName}
-use Rattle.raw_trees.specs.Plain.{PlainExpr, PlainName, Place, NotHeld, Held, PlaceOf, Optional, args_of as raw_args_of, exprs_of as raw_exprs_of, steps_of as raw_steps_of}
+use Rattle.raw_trees.specs.Plain as spelled
+use Rattle.raw_trees.specs.Plain.{PlainArgs, PlainExpr, PlainExprs, PlainName, PlainSteps, Place, NotHeld, Held, PlaceOf, Optional, args_of as raw_args_of, exprs_of as raw_exprs_of, steps_of as raw_steps_of}
 use Rattle.raw_trees.specs.Views.{view_arg as view_raw_arg, view_expr as view_raw, view_form, view_name, view_step as view_raw_step}
 use Rattle.raw_trees.proofs.Rows.{aggregate_view, chain_view, invoke_view}
 use Rattle.rapid_model.specs.declared.sort.Sort.{Sort}
@@ -17,7 +18,8 @@ use Rattle.rapid_model.specs.declared.sort.Sort.TheVariants as sorts
 use Rattle.rapid_builtins.specs.declared.need.Need.{Need}
 use Rattle.rapid_builtins.specs.declared.need.Need.TheVariants as needs
 use Rattle.typed_trees.specs.declared.expr.ExprForm.{ExprForm, Number as NumberForm, Const, Errno, Signal as SignalForm, Place as StoredForm, Group', Aggregate', Builtin', Call', Not', Signed', Chain'}
-use Rattle.typed_trees.specs.Views.{view_form as view_typed_form}
+use Rattle.typed_trees.specs.declared.expr.Expr.{Expr}
+use Rattle.typed_trees.specs.Views.{view_expr, view_form as view_typed_form}
 use Rattle.typed_trees.specs.Plain
 use Rattle.typed_trees.specs.Plain.{TypedArg, TypedExpr, TypedHeld, Given}
 use Rattle.rule_checks.specs.declared.fault.TypeFault.{TypeFault}
@@ -44,28 +46,15 @@ use Rattle.expr_types.specs.Typing.{aggregate, arguments, call, elements, index_
 pub along : {X A : Type 0} (view : X → A) (r : Result X TypeFault) (a b : Checked A) → b ≡ a → Gives view r a → Gives view r b
 along view r a b same h = subst (λ (checked : Checked _). Gives view r checked) (sym same) h
 
-pub typed_aggregate : (site : Site) (raw : RawExpr) (values : Vec RawExpr Global) (want : Wanted) → raw.form ≡ Aggregate values →
-    typed site (view_raw raw) want
-    ≡ (elements site (raw_exprs_of (map view_raw values.items)) (needed_components want) >>= (λ ts. aggregate site want raw.at (raw_exprs_of (map view_raw values.items)) ts))
-unfolding typed
-typed_aggregate site raw values want is =
-    ap (λ form. typed site (view_form raw.at form) want) is ∙ ap (λ e. typed site e want) (aggregate_view raw.at values)
+-- an expression of a form that holds a list
+pub aggregate_form : (raw : RawExpr) (values : Vec RawExpr Global) → raw.form ≡ Aggregate values → view_raw raw ≡ spelled.Aggregate raw.at (raw_exprs_of (map view_raw values.items))
+aggregate_form raw values is = ap (view_form raw.at) is ∙ aggregate_view raw.at values
 
-pub typed_call : (site : Site) (raw : RawExpr) (name : RawName) (args : Vec RawArg Global) (want : Wanted) → raw.form ≡ Call name args →
-    typed site (view_raw raw) want
-    ≡ (function_at site (view_name name) >>= (λ called. arguments site (raw_args_of (map view_raw_arg args.items)) (taking called.signature) >>= (λ ts.
-    call site want raw.at called (raw_args_of (map view_raw_arg args.items)) ts)))
-unfolding typed
-typed_call site raw name args want is =
-    ap (λ form. typed site (view_form raw.at form) want) is ∙ ap (λ e. typed site e want) (invoke_view raw.at name args)
+pub call_form : (raw : RawExpr) (name : RawName) (args : Vec RawArg Global) → raw.form ≡ Call name args → view_raw raw ≡ spelled.Invoke raw.at (view_name name) (raw_args_of (map view_raw_arg args.items))
+call_form raw name args is = ap (view_form raw.at) is ∙ invoke_view raw.at name args
 
-pub typed_chain : (site : Site) (raw : RawExpr) (first : Box RawExpr Global) (rest : Vec (Operator × RawExpr) Global) (want : Wanted) → raw.form ≡ Chain first rest →
-    typed site (view_raw raw) want
-    ≡ (typed site (view_raw first.value) (first_operand (raw_steps_of (map view_raw_step rest.items))) >>= (λ t.
-    steps site (raw_steps_of (map view_raw_step rest.items)) raw.at (sort_of t) >>= (λ r. given site want raw.at r.sort (Plain.Chain raw.at r.sort t r.steps))))
-unfolding typed
-typed_chain site raw first rest want is =
-    ap (λ form. typed site (view_form raw.at form) want) is ∙ ap (λ e. typed site e want) (chain_view raw.at first rest)
+pub chain_form : (raw : RawExpr) (first : Box RawExpr Global) (rest : Vec (Operator × RawExpr) Global) → raw.form ≡ Chain first rest → view_raw raw ≡ spelled.Chain raw.at (view_raw first.value) (raw_steps_of (map view_raw_step rest.items))
+chain_form raw first rest is = ap (view_form raw.at) is ∙ chain_view raw.at first rest
 
 -- a broken rule stays broken
 never : {X Y Z : Type 0} (r : Checked X) (b : TypeBreak) (f : Y → Checked Z) → (r >>= (λ _. Err b)) ≡ ((r >>= (λ _. Err b)) >>= f)
@@ -227,3 +216,28 @@ sort_view at sort (Call' routine shape row) = refl
 sort_view at sort (Not' pointer begin kind form) = refl
 sort_view at sort (Signed' minus pointer begin kind form) = refl
 sort_view at sort (Chain' pointer begin kind form shape row) = refl
+
+-- an expression of a form that holds a list, by its parts
+module _ (site : Site) (want : Wanted) (at : ℕ) where
+  pub typed_aggregate : (es : PlainExprs) → typed site (spelled.Aggregate at es) want ≡ (elements site es (needed_components want) >>= (λ ts. aggregate site want at es ts))
+  unfolding typed
+  typed_aggregate es = refl
+
+  pub typed_call : (name : PlainName) (args : PlainArgs) →
+      typed site (spelled.Invoke at name args) want ≡ (function_at site name >>= (λ called. arguments site args (taking called.signature) >>= (λ ts. call site want at called args ts)))
+  unfolding typed
+  typed_call name args = refl
+
+  pub typed_chain : (first : PlainExpr) (rest : PlainSteps) →
+      typed site (spelled.Chain at first rest) want
+      ≡ (typed site first (first_operand rest) >>= (λ t. steps site rest at (sort_of t) >>= (λ r. given site want at r.sort (Plain.Chain at r.sort t r.steps))))
+  unfolding typed
+  typed_chain first rest = refl
+
+  -- after the first operand
+  pub chain_after : (first : PlainExpr) (rest : PlainSteps) (value : Expr) → typed site first (first_operand rest) ≡ Ok (view_expr value) →
+      typed site (spelled.Chain at first rest) want ≡ (steps site rest at value.sort >>= (λ r. given site want at r.sort (Plain.Chain at r.sort (view_expr value) r.steps)))
+  chain_after first rest value is =
+      typed_chain first rest
+      ∙ ap (λ (r : Checked TypedExpr). r >>= (λ t. steps site rest at (sort_of t) >>= (λ r. given site want at r.sort (Plain.Chain at r.sort t r.steps)))) is
+      ∙ ap (λ sort. steps site rest at sort >>= (λ r. given site want at r.sort (Plain.Chain at r.sort (view_expr value) r.steps))) (sort_view value.at value.sort value.form)

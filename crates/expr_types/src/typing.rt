@@ -1,9 +1,9 @@
 //! The typed form of an expression, or the first broken rule in it (RAPID Overview, expressions): from left to right,
 //! the parts before the whole.
 
-ghost use Rattle.std.specs.Prelude.{◌≡◌, map};
-ghost use Rattle.raw_trees.specs.Plain.{Held, Optional, args_of as raw_args_of, exprs_of as raw_exprs_of, steps_of as raw_steps_of};
-ghost use Rattle.raw_trees.specs.Views.{view_arg as view_raw_arg, view_expr as view_raw, view_place as view_raw_place, view_step as view_raw_step};
+ghost use Rattle.std.specs.Prelude.{◌≡◌, Ok, map};
+ghost use Rattle.raw_trees.specs.Plain.{Aggregate, Chain, Group, Held, Invoke, Not, Optional, Place, PlainExpr, Signed, args_of as raw_args_of, exprs_of as raw_exprs_of, steps_of as raw_steps_of};
+ghost use Rattle.raw_trees.specs.Views.{view_arg as view_raw_arg, view_expr as view_raw, view_name, view_place as view_raw_place, view_step as view_raw_step};
 ghost use Rattle.typed_trees.specs.Plain.{args_of, exprs_of};
 ghost use Rattle.typed_trees.specs.Views.{view_arg, view_expr};
 ghost use Rattle.rule_checks.specs.TypeChecks.{Gives};
@@ -17,7 +17,7 @@ ghost use Rattle.expr_types.specs.Views.{view_chain, view_held, view_part, view_
 
 use crate::called::function_at;
 use crate::lending::{lent_as, lent_of, lent_whole, referred};
-use crate::literals::{number_of, text_of};
+use crate::literals::{number, quoted, truth};
 use crate::names::{bare_name, is_datum, is_whole, known_parts, named};
 use crate::options::{needed_by, option_with, plain_option};
 use crate::place_part::PlacePart;
@@ -26,64 +26,142 @@ use crate::signature::Signature;
 use crate::taking::{Taking, after, nothing_taken};
 use crate::typed_chain::TypedChain;
 use crate::values::{
-    aggregate, call, element_want, first_operand, given, group, one_dimension, place_value,
+    aggregate, call, element_want, first_operand, group, must_fit, one_dimension, place_value,
 };
 use data_scopes::begin_of;
 use named_data::{Site, Wanted, comes_to, datum_at, fault, inside, must, part_at, suits};
 use rapid_builtins::{Need, first_named};
-use rapid_model::{Operator, Predefined, Sort, Value};
-use raw_trees::{RawArg, RawExpr, RawExprForm, RawPlace};
+use rapid_model::{Operator, Predefined, Sort};
+use raw_trees::{RawArg, RawExpr, RawExprForm, RawName, RawPlace};
 use rule_checks::{TypeFault, TypeRule};
 use typed_trees::{Arg, Expr};
 
 /// The typed form of an expression in a place with a requirement.
 #[cycle(typing)]
-#[tactic(auto, unfolding(crate::specs::Typing::typed))]
 pub fn typed(site: &Site<'_>, raw: &RawExpr<'_>, want: Wanted) -> Result<Expr, TypeFault>
     ensures { Gives view_expr result (Typing.typed (view_site site.now) (view_raw raw.now) want) }
 {
     let at = raw.at;
     match &raw.form {
-        RawExprForm::Number(text) => {
-            let tree = Expr::constant(site.alloc, at, Sort::Num, Value::Num(number_of(text)))?;
-            given(site, want, at, Sort::Num, tree)
-        }
-        RawExprForm::Text(text) => {
-            let tree = Expr::constant(site.alloc, at, Sort::Text, Value::Text(text_of(text)))?;
-            given(site, want, at, Sort::Text, tree)
-        }
-        RawExprForm::Bool(value) => {
-            let tree = Expr::constant(site.alloc, at, Sort::Bool, Value::Bool(*value))?;
-            given(site, want, at, Sort::Bool, tree)
-        }
-        RawExprForm::Group(inner) => group(site, want, at, typed(site, inner, inside(want))?),
-        RawExprForm::Aggregate(values) => {
-            aggregate(site, want, at, values, elements(site, values, want)?)
-        }
-        RawExprForm::Call { name, args } => {
-            let called = function_at(site, name)?;
-            let typed_args = arguments(site, args, &called.signature)?;
-            call(site, want, at, &called, args, typed_args)
-        }
-        RawExprForm::Place(written) => place_value(site, want, at, place(site, written, false)?),
-        RawExprForm::Not(operand) => {
-            let value = typed(site, operand, Wanted::Same(Sort::Bool))?;
-            let tree = Expr::not(site.alloc, at, Sort::Bool, value)?;
-            given(site, want, at, Sort::Bool, tree)
-        }
-        RawExprForm::Signed { minus, operand } => {
-            let value = typed(site, operand, Wanted::Same(Sort::Num))?;
-            let tree = Expr::signed(site.alloc, at, Sort::Num, *minus, value)?;
-            given(site, want, at, Sort::Num, tree)
-        }
+        RawExprForm::Number(text) => number(site, want, at, text),
+        RawExprForm::Text(text) => quoted(site, want, at, text),
+        RawExprForm::Bool(value) => truth(site, want, at, *value),
+        RawExprForm::Group(inner) => grouped(site, want, at, inner),
+        RawExprForm::Aggregate(values) => bracketed(site, want, at, values),
+        RawExprForm::Call { name, args } => invoked(site, want, at, name, args),
+        RawExprForm::Place(written) => placed(site, want, at, written),
+        RawExprForm::Not(operand) => negated(site, want, at, operand),
+        RawExprForm::Signed { minus, operand } => signed(site, want, at, *minus, operand),
         RawExprForm::Chain { first, rest } => {
             let value = typed(site, first, first_operand(rest))?;
-            let chain = steps(site, rest, at, value.sort)?;
-            let sort = chain.sort;
-            let tree = Expr::chain(site.alloc, at, sort, value, chain.steps)?;
-            given(site, want, at, sort, tree)
+            chained(site, want, at, rest, value)
         }
     }
+}
+
+/// A value in parentheses that start at this byte.
+#[cycle(typing)]
+#[tactic(auto, unfolding(crate::specs::Typing::typed))]
+fn grouped(site: &Site<'_>, want: Wanted, at: usize, inner: &RawExpr<'_>) -> Result<Expr, TypeFault>
+    ensures { Gives view_expr result (Typing.typed (view_site site.now) (Group at (view_raw inner.now)) want) }
+{
+    group(site, want, at, typed(site, inner, inside(want))?)
+}
+
+/// Values in brackets that start at this byte.
+#[cycle(typing)]
+fn bracketed(
+    site: &Site<'_>,
+    want: Wanted,
+    at: usize,
+    values: &Vec<RawExpr<'_>>,
+) -> Result<Expr, TypeFault>
+    ensures { Gives view_expr result (Typing.typed (view_site site.now) (Aggregate at (raw_exprs_of (map view_raw values.now.items))) want) }
+{
+    aggregate(site, want, at, values, elements(site, values, want)?)
+}
+
+/// A function call that starts at this byte.
+#[cycle(typing)]
+#[tactic(auto, unfolding(crate::specs::Typing::typed))]
+fn invoked(
+    site: &Site<'_>,
+    want: Wanted,
+    at: usize,
+    name: &RawName<'_>,
+    args: &Vec<RawArg<'_>>,
+) -> Result<Expr, TypeFault>
+    ensures { Gives view_expr result (Typing.typed (view_site site.now) (Invoke at (view_name name.now) (raw_args_of (map view_raw_arg args.now.items))) want) }
+{
+    let called = function_at(site, name)?;
+    let typed_args = arguments(site, args, &called.signature)?;
+    call(site, want, at, &called, args, typed_args)
+}
+
+/// The value of a place, as an expression that starts at this byte.
+#[cycle(typing)]
+#[tactic(auto, unfolding(crate::specs::Typing::typed))]
+fn placed(
+    site: &Site<'_>,
+    want: Wanted,
+    at: usize,
+    written: &RawPlace<'_>,
+) -> Result<Expr, TypeFault>
+    ensures { Gives view_expr result (Typing.typed (view_site site.now) (Place at (view_raw_place written.now)) want) }
+{
+    place_value(site, want, at, place(site, written, false)?)
+}
+
+/// NOT at this byte, with its operand.
+#[cycle(typing)]
+#[tactic(auto, unfolding(crate::specs::Typing::typed))]
+fn negated(
+    site: &Site<'_>,
+    want: Wanted,
+    at: usize,
+    operand: &RawExpr<'_>,
+) -> Result<Expr, TypeFault>
+    ensures { Gives view_expr result (Typing.typed (view_site site.now) (Not at (view_raw operand.now)) want) }
+{
+    let value = typed(site, operand, Wanted::Same(Sort::Bool))?;
+    must_fit(site, want, at, Sort::Bool)?;
+    let tree = Expr::not(site.alloc, at, Sort::Bool, value)?;
+    Ok(tree)
+}
+
+/// A sign at this byte, with its operand.
+#[cycle(typing)]
+#[tactic(auto, unfolding(crate::specs::Typing::typed))]
+fn signed(
+    site: &Site<'_>,
+    want: Wanted,
+    at: usize,
+    minus: bool,
+    operand: &RawExpr<'_>,
+) -> Result<Expr, TypeFault>
+    ensures { Gives view_expr result (Typing.typed (view_site site.now) (Signed at minus (view_raw operand.now)) want) }
+{
+    let value = typed(site, operand, Wanted::Same(Sort::Num))?;
+    must_fit(site, want, at, Sort::Num)?;
+    let tree = Expr::signed(site.alloc, at, Sort::Num, minus, value)?;
+    Ok(tree)
+}
+
+/// A chain of operators that starts at this byte, whose first operand has this typed form.
+#[cycle(typing)]
+fn chained(
+    site: &Site<'_>,
+    want: Wanted,
+    at: usize,
+    rest: &Vec<(Operator, RawExpr<'_>)>,
+    value: Expr,
+) -> Result<Expr, TypeFault>
+    ensures { (first : PlainExpr) → let steps = raw_steps_of (map view_raw_step rest.now.items) in Typing.typed (view_site site.now) first (Wants.first_operand steps) ≡ Ok (view_expr value) → Gives view_expr result (Typing.typed (view_site site.now) (Chain at first steps) want) }
+{
+    let chain = steps(site, rest, at, value.sort)?;
+    must_fit(site, want, at, chain.sort)?;
+    let tree = Expr::chain(site.alloc, at, chain.sort, value, chain.steps)?;
+    Ok(tree)
 }
 
 /// The elements of brackets, each with its component's type.

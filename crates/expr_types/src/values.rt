@@ -7,8 +7,10 @@ ghost use Rattle.raw_trees.specs.Plain.{Number, args_of as raw_args_of, exprs_of
 ghost use Rattle.raw_trees.specs.Views.{view_arg as view_raw_arg, view_expr as view_raw, view_place as view_raw_place, view_step as view_raw_step};
 ghost use Rattle.typed_trees.specs.Plain.{Given, args_of, exprs_of};
 ghost use Rattle.typed_trees.specs.Views.{view_arg, view_expr};
+ghost use Rattle.rule_checks.specs.Checks.{must};
 ghost use Rattle.rule_checks.specs.TypeChecks.{Gives};
 ghost use Rattle.named_data.specs.Data;
+ghost use Rattle.named_data.specs.Rules.{at_byte};
 ghost use Rattle.named_data.specs.Views.{view_site};
 ghost use Rattle.named_data.specs.Wants;
 ghost use Rattle.expr_types.specs.Arguments;
@@ -27,18 +29,16 @@ use raw_trees::{RawArg, RawExpr, RawExprForm};
 use rule_checks::{TypeFault, TypeRule};
 use typed_trees::{Arg, Expr, TreePlace};
 
-/// An expression of this type in a place with a requirement.
-pub(crate) fn given(
+/// Checks that a value of this type meets the requirement.
+pub(crate) fn must_fit(
     site: &Site<'_>,
     want: Wanted,
     at: usize,
     sort: Sort,
-    tree: Expr,
-) -> Result<Expr, TypeFault>
-    ensures { Gives view_expr result (Data.given (view_site site.now) want at sort (view_expr tree)) }
+) -> Result<(), TypeFault>
+    ensures { Gives (λ u. u) result (must (Wants.fits want sort) (at_byte (view_site site.now) at (Wants.clash want))) }
 {
-    must(site, fits(want, sort), at, clash(want))?;
-    Ok(tree)
+    must(site, fits(want, sort), at, clash(want))
 }
 
 /// A value in parentheses.
@@ -183,8 +183,8 @@ pub(crate) fn place_value(
 {
     let sort = place.sort;
     must(site, has_values(sort), at, TypeRule::TypeClash)?;
-    let tree = value_from(site, at, place)?;
-    given(site, want, at, sort, tree)
+    must_fit(site, want, at, sort)?;
+    value_from(site, at, place)
 }
 
 /// The value of a source. Fails only if an allocation fails.

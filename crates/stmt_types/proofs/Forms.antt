@@ -1,5 +1,5 @@
 -- Statements by their forms.
-use Rattle.std.proofs.Common.{◌≡◌, ℕ, ◌+◌, ◌≤◌, List, [], ◌++◌, length, map, drop, Option, Some, Ok, option_map, refl, sym, ap, subst, ◌∙◌, append_assoc}
+use Rattle.std.proofs.Common.{◌≡◌, ℕ, ◌+◌, ◌≤◌, List, [], ◌++◌, length, map, drop, Option, Some, Result, Ok, Err, option_map, refl, sym, ap, ◌∙◌, append_assoc}
 use Rattle.std.proofs.Math.ListN.{drop_of_length-le}
 use Rattle.std.proofs.lemmas.List.{append-nil}
 use Rattle.std.specs.declared.alloc.Global.{Global}
@@ -12,16 +12,21 @@ use Rattle.raw_trees.specs.declared.raw_name.RawName.{RawName}
 use Rattle.raw_trees.specs.declared.raw_stmt.RawStmt.{RawStmt}
 use Rattle.raw_trees.specs.declared.raw_stmt.RawForm.{RawForm, If, If', For, While, Test, Test', roll-RawForm, roll-out-RawForm}
 use Rattle.raw_trees.specs.declared.raw_stmt.RawForm.TheVariants.{outs-If', rolls-If, outs-Test', rolls-Test}
-use Rattle.raw_trees.specs.Plain.{PlainName, NoArms, NoCases, arms_of as raw_arms_of, cases_of as raw_cases_of, else_of as raw_else_of, stmts_of as raw_stmts_of}
+use Rattle.raw_trees.specs.Plain as spelled
+use Rattle.raw_trees.specs.Plain.{PlainExpr, PlainName, PlainCases, PlainElse, NoArms, NoCases, arms_of as raw_arms_of, cases_of as raw_cases_of, else_of as raw_else_of, stmts_of as raw_stmts_of}
 use Rattle.raw_trees.specs.Views.{view_arm as view_raw_arm, view_case as view_raw_case, view_expr as view_raw, view_list as view_raw_list, view_stmt as view_raw_stmt, view_stmt_form as view_raw_form}
 use Rattle.raw_trees.proofs.Rows.{choice_view, for_view, test_view, while_view}
 use Rattle.rapid_model.specs.declared.sort.Sort.TheVariants as sorts
+use Rattle.typed_trees.specs.declared.stmt.Stmt.{Stmt}
 use Rattle.typed_trees.specs.Plain
+use Rattle.typed_trees.specs.Views.{view_stmt}
+use Rattle.rule_checks.specs.declared.fault.TypeFault.{TypeFault}
+use Rattle.rule_checks.specs.declared.fault.TypeFault.TheVariants.{Rule, Memory}
 use Rattle.rule_checks.specs.Checks.{◌>>=◌}
-use Rattle.rule_checks.specs.TypeChecks.{Checked}
+use Rattle.rule_checks.specs.TypeChecks.{Checked, Gives}
 use Rattle.named_data.specs.declared.wanted.Wanted.TheVariants.{Is, Fits}
 use Rattle.expr_types.specs.Typing.{typed, sort_of}
-use Rattle.stmt_types.specs.Bodies.{Around, Body, Bounds, Typed, bounds, choices, counter_index, otherwise, site, stmt}
+use Rattle.stmt_types.specs.Bodies.{Around, Body, Bounds, Typed, bounds, choices, counter_index, otherwise, site, stmt, then_next, with_next}
 use Rattle.stmt_types.specs.Labels.{labels_in, labels_in_arms, labels_in_cases, labels_in_else, labels_of}
 use Rattle.stmt_types.specs.Parts.{arms_in, cases_in, else_in}
 use Rattle.stmt_types.proofs.Lists.{inside}
@@ -53,6 +58,15 @@ module _ (s : RawStmt) where
       cases_in (view_raw_stmt s) ≡ raw_cases_of (map view_raw_case cases.items)
   test_cases value cases other is = ap cases_in (ap (view_raw_form s.at) is ∙ test_view s.at value cases other)
 
+  -- an IF and a TEST of the lists in them
+  pub if_parts : (arms : Vec (RawExpr × Vec RawStmt Global) Global) (other : Option (Vec RawStmt Global)) → s.form ≡ If arms other →
+      view_raw_stmt s ≡ spelled.If s.at (arms_in (view_raw_stmt s)) (else_in (view_raw_stmt s))
+  if_parts arms other is = let whole = ap (view_raw_form s.at) is ∙ choice_view s.at arms other in whole ∙ ap (λ p. spelled.If s.at (arms_in p) (else_in p)) (sym whole)
+
+  pub test_parts : (value : RawExpr) (cases : Vec (Vec RawExpr Global × Vec RawStmt Global) Global) (other : Option (Vec RawStmt Global)) → s.form ≡ Test value cases other →
+      view_raw_stmt s ≡ spelled.Test s.at (view_raw value) (cases_in (view_raw_stmt s)) (else_in (view_raw_stmt s))
+  test_parts value cases other is = let whole = ap (view_raw_form s.at) is ∙ test_view s.at value cases other in whole ∙ ap (λ p. spelled.Test s.at (view_raw value) (cases_in p) (else_in p)) (sym whole)
+
 -- ELSE or DEFAULT with a list
 abbrev pub as_else : Typed Plain.TypedStmts → Checked (Typed Plain.TypedElse)
 as_else l = Ok (record { tree = Plain.Else l.tree; next = l.next })
@@ -83,29 +97,30 @@ module _ (body : Body) (s : RawStmt) (around : Around) (next : ℕ) where
   test_given value cases other list is some =
       ap (λ e. otherwise body (else_in e) around next) (ap (view_raw_form s.at) is ∙ test_view s.at value cases other) ∙ else_given body around next list other some
 
-  pub stmt_for : (name : RawName) (raw : Box RawBounds Global) (list : Vec RawStmt Global) → s.form ≡ For name raw list →
-      stmt body (view_raw_stmt s) around next
-      ≡ (bounds (site body around s.at) (view_raw raw.value.first) (view_raw raw.value.last) (option_map view_raw raw.value.step) >>= (λ b.
-      inside body (record around { within = Some next }) list (next + 1) >>= as_for body s.at next b))
+module _ (body : Body) (around : Around) (next at : ℕ) where
+  pub stmt_for : (name : PlainName) (first last : PlainExpr) (step : Option PlainExpr) (list : Vec RawStmt Global) →
+      stmt body (spelled.For at name first last step (raw_stmts_of (view_raw_list list))) around next
+      ≡ (bounds (site body around at) first last step >>= (λ b. inside body (record around { within = Some next }) list (next + 1) >>= as_for body at next b))
   unfolding stmt
-  stmt_for name raw list is = ap (λ p. stmt body p around next) (ap (view_raw_form s.at) is ∙ for_view s.at name raw list)
+  stmt_for name first last step list = refl
 
-  pub stmt_while : (test : RawExpr) (list : Vec RawStmt Global) → s.form ≡ While test list →
-      stmt body (view_raw_stmt s) around next ≡ (typed (site body around s.at) (view_raw test) (Is sorts.Bool) >>= (λ t. inside body around list next >>= as_while s.at t))
+  pub stmt_while : (test : PlainExpr) (list : Vec RawStmt Global) →
+      stmt body (spelled.While at test (raw_stmts_of (view_raw_list list))) around next ≡ (typed (site body around at) test (Is sorts.Bool) >>= (λ t. inside body around list next >>= as_while at t))
   unfolding stmt
-  stmt_while test list is = ap (λ p. stmt body p around next) (ap (view_raw_form s.at) is ∙ while_view s.at test list)
+  stmt_while test list = refl
 
-  pub stmt_test : (value : RawExpr) (cases : Vec (Vec RawExpr Global × Vec RawStmt Global) Global) (other : Option (Vec RawStmt Global)) → s.form ≡ Test value cases other →
-      stmt body (view_raw_stmt s) around next
-      ≡ (typed (site body around s.at) (view_raw value) (Fits operators.Equal) >>= (λ t.
-      choices body (cases_in (view_raw_stmt s)) (site body around s.at) (sort_of t) around next >>= (λ c.
-      otherwise body (else_in (view_raw_stmt s)) around c.next >>= as_test s.at t c)))
+  pub stmt_test : (value : PlainExpr) (cases : PlainCases) (other : PlainElse) →
+      stmt body (spelled.Test at value cases other) around next
+      ≡ (typed (site body around at) value (Fits operators.Equal) >>= (λ t.
+      choices body cases (site body around at) (sort_of t) around next >>= (λ c. otherwise body other around c.next >>= as_test at t c)))
   unfolding stmt
-  stmt_test value cases other is =
-      subst (λ (form : RawForm). stmt body (view_raw_form s.at form) around next
-      ≡ (typed (site body around s.at) (view_raw value) (Fits operators.Equal) >>= (λ t.
-      choices body (cases_in (view_raw_form s.at form)) (site body around s.at) (sort_of t) around next >>= (λ c.
-      otherwise body (else_in (view_raw_form s.at form)) around c.next >>= as_test s.at t c)))) (sym is) refl
+  stmt_test value cases other = refl
+
+-- what a statement without lists gives, with the number of the next FOR
+pub gives_next : (next : ℕ) (result : Result Stmt TypeFault) (checked : Checked Plain.TypedStmt) → Gives view_stmt result checked → Gives (λ tree. with_next next (view_stmt tree)) result (then_next next checked)
+gives_next next (Ok tree) checked is = ap (then_next next) is
+gives_next next (Err (Rule number at rule)) checked is = ap (then_next next) is
+gives_next next (Err Memory) checked is = tt
 
 -- The labels of a statement, with those of its parts appended in turn.
 then_else : (before done here other : List PlainName) → done ++ [] ≡ before ++ here → before ++ (here ++ other) ≡ done ++ other

@@ -13,48 +13,45 @@ use std::alloc::Global;
 
 /// Appends the labels of a statement.
 #[cycle(labels)]
-fn with_stmt<'a>(raw: &RawStmt<'a>, labels: LabelList<'a>) -> Result<LabelList<'a>, TypeFault>
-    ensures { Gives (λ labels. labels) result (Ok (labels.entry ++ Labels.labels_of (view_stmt raw.now))) }
+fn push_stmt<'a>(raw: &RawStmt<'a>, labels: &mut LabelList<'a>) -> Result<(), TypeFault>
+    ensures { Gives (λ _. labels.new) result (Ok (labels.old ++ Labels.labels_of (view_stmt raw.now))) }
 {
     match &raw.form {
-        RawForm::Label(name) => labels.with_label(*name),
+        RawForm::Label(name) => labels.push(*name),
         RawForm::If { arms, other } => {
-            let mut more = labels;
             for arm in arms {
-                more = with_list(&arm.1, more)?;
+                push_list(&arm.1, labels)?;
             }
             match other {
-                Some(list) => with_list(list, more),
-                None => Ok(more),
+                Some(list) => push_list(list, labels),
+                None => Ok(()),
             }
         }
-        RawForm::IfOne { then, .. } => with_stmt(then, labels),
-        RawForm::For { list, .. } => with_list(list, labels),
-        RawForm::While { list, .. } => with_list(list, labels),
+        RawForm::IfOne { then, .. } => push_stmt(then, labels),
+        RawForm::For { list, .. } => push_list(list, labels),
+        RawForm::While { list, .. } => push_list(list, labels),
         RawForm::Test { cases, other, .. } => {
-            let mut more = labels;
             for case in cases {
-                more = with_list(&case.1, more)?;
+                push_list(&case.1, labels)?;
             }
             match other {
-                Some(list) => with_list(list, more),
-                None => Ok(more),
+                Some(list) => push_list(list, labels),
+                None => Ok(()),
             }
         }
-        _ => Ok(labels),
+        _ => Ok(()),
     }
 }
 
 /// Appends the labels of a list.
 #[cycle(labels)]
-fn with_list<'a>(list: &Vec<RawStmt<'a>>, labels: LabelList<'a>) -> Result<LabelList<'a>, TypeFault>
-    ensures { Gives (λ labels. labels) result (Ok (labels.entry ++ Labels.labels_in (stmts_of (view_list list.now)))) }
+fn push_list<'a>(list: &Vec<RawStmt<'a>>, labels: &mut LabelList<'a>) -> Result<(), TypeFault>
+    ensures { Gives (λ _. labels.new) result (Ok (labels.old ++ Labels.labels_in (stmts_of (view_list list.now)))) }
 {
-    let mut more = labels;
     for stmt in list {
-        more = with_stmt(stmt, more)?;
+        push_stmt(stmt, labels)?;
     }
-    Ok(more)
+    Ok(())
 }
 
 /// All labels of a routine, in text order: those of its statements, then those of its ERROR part. Fails only if an
@@ -62,9 +59,10 @@ fn with_list<'a>(list: &Vec<RawStmt<'a>>, labels: LabelList<'a>) -> Result<Label
 pub fn labels_of<'a>(alloc: Global, routine: &RawRoutine<'a>) -> Result<LabelList<'a>, TypeFault>
     ensures { Gives (λ labels. labels) result (Ok (Labels.labels_in_routine (view_routine routine.now))) }
 {
-    let labels = with_list(&routine.list, LabelList::new(alloc))?;
-    match &routine.handler {
-        Some(list) => with_list(list, labels),
-        None => Ok(labels),
+    let mut labels = LabelList::new(alloc);
+    push_list(&routine.list, &mut labels)?;
+    if let Some(list) = &routine.handler {
+        push_list(list, &mut labels)?;
     }
+    Ok(labels)
 }

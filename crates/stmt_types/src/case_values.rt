@@ -23,7 +23,7 @@ pub(crate) fn case_values(
 ) -> Result<Vec<Expr>, TypeFault>
     ensures { Gives (λ v. exprs_of (map view_expr v.items)) result (Bodies.case_values (view_site site.now) sort (map view_raw values.now)) }
 {
-    let mut done = Vec::new(site.alloc);
+    let mut done = Vec::with_capacity(site.alloc, values.len())?;
     for value in values {
         done.push(typed(site, value, Wanted::Same(sort))?)?;
     }

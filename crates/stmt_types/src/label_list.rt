@@ -45,16 +45,14 @@ impl<'a> LabelList<'a> {
     }
 
     /// Appends a label. Fails only as out of memory, also for a name of more than 32 characters.
-    pub(crate) fn with_label(self, label: RawName<'a>) -> Result<LabelList<'a>, TypeFault>
-        ensures { Gives (λ labels. labels) result (Ok (self.entry ++ view_name label.entry ∷ [])) }
+    pub(crate) fn push(&mut self, label: RawName<'a>) -> Result<(), TypeFault>
+        ensures { Gives (λ _. self.new) result (Ok (self.old ++ view_name label.entry ∷ [])) }
     {
-        let LabelList { labels, firsts } = self;
-        let mut labels = labels;
-        let mut firsts = firsts;
-        let number = number_of(labels.len())?;
-        firsts.enter(label.text, number)?;
-        labels.push(label)?;
-        Ok(LabelList { labels, firsts })
+        let number = number_of(self.labels.len())?;
+        self.labels.reserve(1)?;
+        self.firsts.enter(label.text, number)?;
+        self.labels.push_reserved(label);
+        Ok(())
     }
 
     /// How many there are.

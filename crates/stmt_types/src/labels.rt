@@ -44,12 +44,12 @@ pub(crate) fn has_labels(list: &Vec<RawStmt<'_>>) -> bool
 }
 
 /// Appends the label that a statement is, if it is one.
-fn with_own<'a>(labels: LabelList<'a>, stmt: &RawStmt<'a>) -> Result<LabelList<'a>, TypeFault>
-    ensures { Gives (λ labels. labels) result (Ok (labels.entry ++ Labels.own_labels (MoreStmts (view_stmt stmt.now) NoStmts))) }
+fn push_own<'a>(labels: &mut LabelList<'a>, stmt: &RawStmt<'a>) -> Result<(), TypeFault>
+    ensures { Gives (λ _. labels.new) result (Ok (labels.old ++ Labels.own_labels (MoreStmts (view_stmt stmt.now) NoStmts))) }
 {
     match &stmt.form {
-        RawForm::Label(name) => labels.with_label(*name),
-        _ => Ok(labels),
+        RawForm::Label(name) => labels.push(*name),
+        _ => Ok(()),
     }
 }
 
@@ -62,7 +62,7 @@ pub(crate) fn own_labels<'a>(
 {
     let mut labels = LabelList::new(alloc);
     for stmt in list {
-        labels = with_own(labels, stmt)?;
+        push_own(&mut labels, stmt)?;
     }
     Ok(labels)
 }

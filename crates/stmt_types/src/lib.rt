@@ -12,6 +12,7 @@ mod jumps;
 mod label_list;
 mod labels;
 mod returns;
+mod simple;
 mod statements;
 mod targets;
 mod typed_rows;

@@ -1,9 +1,9 @@
 //! The typed form of a routine's statements, or the first broken rule in them: from left to right, the parts before the
 //! whole (RAPID Kernel, statements).
 
-ghost use Rattle.std.specs.Prelude.{◌≡◌, map};
-ghost use Rattle.raw_trees.specs.Plain.{stmts_of as raw_stmts_of};
-ghost use Rattle.raw_trees.specs.Views.{view_list as view_raw_list, view_stmt as view_raw_stmt};
+ghost use Rattle.std.specs.Prelude.{◌≡◌, map, option_map};
+ghost use Rattle.raw_trees.specs.Plain.{For, If, IfOne, PlainName, Test, While, stmts_of as raw_stmts_of};
+ghost use Rattle.raw_trees.specs.Views.{view_expr as view_raw, view_list as view_raw_list, view_stmt as view_raw_stmt};
 ghost use Rattle.typed_trees.specs.Plain.{Else};
 ghost use Rattle.typed_trees.specs.Views.{view_stmt};
 ghost use Rattle.rule_checks.specs.TypeChecks.{Gives};
@@ -16,23 +16,20 @@ ghost use Rattle.stmt_types.specs.Views.{view_around, view_body, view_typed_arms
 use crate::around::{Around, site_at};
 use crate::body::Body;
 use crate::bounds::bounds_of;
-use crate::calls::{called, connected};
 use crate::case_values::case_values;
 use crate::counter_index::counter_index;
-use crate::jumps::{jumped, labelled};
 use crate::labels::{has_labels, levels_within, own_labels};
-use crate::returns::{in_handler, raised, returned};
-use crate::targets::assigned;
+use crate::simple::simple;
 use crate::typed_rows::{TypedArms, TypedCases, TypedElse, TypedList, TypedOne};
 use data_scopes::number_after;
 use expr_types::typed;
 use named_data::{Site, Wanted};
 use rapid_model::{Operator, Sort};
-use raw_trees::{RawForm, RawStmt};
+use raw_trees::{RawBounds, RawExpr, RawForm, RawStmt};
 use rule_checks::TypeFault;
 use typed_trees::Stmt;
 
-/// A statement without lists, and the number of the next FOR.
+/// A statement, and the number of the next FOR.
 fn with_next(next: u32, stmt: Stmt) -> TypedOne
     ensures { view_typed_one result ≡ Bodies.with_next next (view_stmt stmt) }
 {
@@ -51,7 +48,6 @@ fn given(list: TypedList) -> TypedElse
 
 /// The typed form of a statement, given the number of the next FOR.
 #[cycle(statements)]
-#[tactic(auto, unfolding(crate::specs::Bodies::stmt))]
 fn stmt<'b>(
     raw: &RawStmt<'b>,
     body: &Body<'_, '_>,
@@ -61,60 +57,112 @@ fn stmt<'b>(
     ensures { Gives view_typed_one result (Bodies.stmt (view_body body.now) (view_raw_stmt raw.now) (view_around around.now) next) }
 {
     let at = raw.at;
-    let site = site_at(body, around, at);
     match &raw.form {
-        RawForm::Assign { place, value } => {
-            Ok(with_next(next, assigned(&site, at, place, value)?))
-        }
-        RawForm::Call { name, args } => Ok(with_next(next, called(&site, at, name, args)?)),
-        RawForm::Label(name) => Ok(with_next(next, labelled(body, &site, at, name)?)),
-        RawForm::Goto(name) => Ok(with_next(next, jumped(body, around, &site, at, name)?)),
-        RawForm::Return(value) => Ok(with_next(next, returned(body, &site, at, value)?)),
-        RawForm::Exit => Ok(with_next(next, Stmt::exit(at))),
-        RawForm::Raise(number) => Ok(with_next(next, raised(around, &site, at, number)?)),
-        RawForm::Retry => {
-            let tree = in_handler(around, &site, at, Stmt::retry(at))?;
-            Ok(with_next(next, tree))
-        }
-        RawForm::TryNext => {
-            let tree = in_handler(around, &site, at, Stmt::try_next(at))?;
-            Ok(with_next(next, tree))
-        }
-        RawForm::Connect { place, trap } => {
-            Ok(with_next(next, connected(&site, at, place, trap)?))
-        }
-        RawForm::If { .. } => {
-            let arms = branches(raw, body, around, &site, next)?;
-            let other = otherwise(raw, body, around, arms.next)?;
-            let tree = Stmt::branch(at, arms.arms, other.other);
-            Ok(with_next(other.next, tree))
-        }
-        RawForm::IfOne { test, then } => {
-            let test = typed(&site, test, Wanted::Is(Sort::Bool))?;
-            let then = stmt(then, body, around, next)?;
-            let tree = Stmt::branch_one(body.alloc, at, test, then.stmt)?;
-            Ok(with_next(then.next, tree))
-        }
-        RawForm::For { bounds, list, .. } => {
-            let bounds = bounds_of(&site, bounds)?;
-            let local = counter_index(body, next)?;
-            let list = inner(list, body, &around.in_loop(next), number_after(next)?)?;
-            let tree = Stmt::count(body.alloc, at, local, bounds, list.list)?;
-            Ok(with_next(list.next, tree))
-        }
-        RawForm::While { test, list } => {
-            let test = typed(&site, test, Wanted::Is(Sort::Bool))?;
-            let list = inner(list, body, around, next)?;
-            Ok(with_next(list.next, Stmt::repeat(at, test, list.list)))
-        }
-        RawForm::Test { value, .. } => {
-            let value = typed(&site, value, Wanted::Fits(Operator::Equal))?;
-            let cases = choices(raw, body, around, &site, value.sort, next)?;
-            let other = otherwise(raw, body, around, cases.next)?;
-            let tree = Stmt::test(at, value, cases.cases, other.other);
-            Ok(with_next(other.next, tree))
-        }
+        RawForm::If { .. } => branched(raw, body, around, next),
+        RawForm::IfOne { test, then } => branched_one(at, then, test, body, around, next),
+        RawForm::For { bounds, list, .. } => counted(at, bounds, list, body, around, next),
+        RawForm::While { test, list } => repeated(at, list, test, body, around, next),
+        RawForm::Test { value, .. } => tested(raw, value, body, around, next),
+        _ => Ok(with_next(next, simple(raw, body, around)?)),
     }
+}
+
+/// IF and ELSEIF with their lists, and ELSE (RAPID Kernel, IF).
+#[cycle(statements)]
+#[tactic(auto, unfolding(crate::specs::Bodies::stmt))]
+fn branched<'b>(
+    raw: &RawStmt<'b>,
+    body: &Body<'_, '_>,
+    around: &Around<'_, 'b>,
+    next: u32,
+) -> Result<TypedOne, TypeFault>
+    ensures { let stmt = view_raw_stmt raw.now in Gives view_typed_one result (Bodies.stmt (view_body body.now) (If raw.now.at (arms_in stmt) (else_in stmt)) (view_around around.now) next) }
+{
+    let site = site_at(body, around, raw.at);
+    let arms = branches(raw, body, around, &site, next)?;
+    let other = otherwise(raw, body, around, arms.next)?;
+    let tree = Stmt::branch(raw.at, arms.arms, other.other);
+    Ok(with_next(other.next, tree))
+}
+
+/// IF with one simple statement (RAPID Kernel, IF).
+#[cycle(statements)]
+#[tactic(auto, unfolding(crate::specs::Bodies::stmt))]
+fn branched_one<'b>(
+    at: usize,
+    then: &RawStmt<'b>,
+    test: &RawExpr<'b>,
+    body: &Body<'_, '_>,
+    around: &Around<'_, 'b>,
+    next: u32,
+) -> Result<TypedOne, TypeFault>
+    ensures { Gives view_typed_one result (Bodies.stmt (view_body body.now) (IfOne at (view_raw test.now) (view_raw_stmt then.now)) (view_around around.now) next) }
+{
+    let site = site_at(body, around, at);
+    let test = typed(&site, test, Wanted::Is(Sort::Bool))?;
+    let then = stmt(then, body, around, next)?;
+    let tree = Stmt::branch_one(body.alloc, at, test, then.stmt)?;
+    Ok(with_next(then.next, tree))
+}
+
+/// FOR with its list, whatever the name of its variable (RAPID Kernel, FOR).
+#[cycle(statements)]
+#[tactic(auto, unfolding(crate::specs::Bodies::stmt))]
+fn counted<'b>(
+    at: usize,
+    bounds: &Box<RawBounds<'b>>,
+    list: &Vec<RawStmt<'b>>,
+    body: &Body<'_, '_>,
+    around: &Around<'_, 'b>,
+    next: u32,
+) -> Result<TypedOne, TypeFault>
+    ensures { (name : PlainName) → let b = bounds.now.value in Gives view_typed_one result (Bodies.stmt (view_body body.now) (For at name (view_raw b.first) (view_raw b.last) (option_map view_raw b.step) (raw_stmts_of (view_raw_list list.now))) (view_around around.now) next) }
+{
+    let site = site_at(body, around, at);
+    let bounds = bounds_of(&site, bounds)?;
+    let local = counter_index(body, next)?;
+    let list = inner(list, body, &around.in_loop(next), number_after(next)?)?;
+    let tree = Stmt::count(body.alloc, at, local, bounds, list.list)?;
+    Ok(with_next(list.next, tree))
+}
+
+/// WHILE with its list (RAPID Kernel, WHILE).
+#[cycle(statements)]
+#[tactic(auto, unfolding(crate::specs::Bodies::stmt))]
+fn repeated<'b>(
+    at: usize,
+    list: &Vec<RawStmt<'b>>,
+    test: &RawExpr<'b>,
+    body: &Body<'_, '_>,
+    around: &Around<'_, 'b>,
+    next: u32,
+) -> Result<TypedOne, TypeFault>
+    ensures { Gives view_typed_one result (Bodies.stmt (view_body body.now) (While at (view_raw test.now) (raw_stmts_of (view_raw_list list.now))) (view_around around.now) next) }
+{
+    let site = site_at(body, around, at);
+    let test = typed(&site, test, Wanted::Is(Sort::Bool))?;
+    let list = inner(list, body, around, next)?;
+    Ok(with_next(list.next, Stmt::repeat(at, test, list.list)))
+}
+
+/// TEST of this value: each CASE with its list, and DEFAULT (RAPID Kernel, TEST).
+#[cycle(statements)]
+#[tactic(auto, unfolding(crate::specs::Bodies::stmt))]
+fn tested<'b>(
+    raw: &RawStmt<'b>,
+    value: &RawExpr<'b>,
+    body: &Body<'_, '_>,
+    around: &Around<'_, 'b>,
+    next: u32,
+) -> Result<TypedOne, TypeFault>
+    ensures { let stmt = view_raw_stmt raw.now in Gives view_typed_one result (Bodies.stmt (view_body body.now) (Test raw.now.at (view_raw value.now) (cases_in stmt) (else_in stmt)) (view_around around.now) next) }
+{
+    let site = site_at(body, around, raw.at);
+    let value = typed(&site, value, Wanted::Fits(Operator::Equal))?;
+    let cases = choices(raw, body, around, &site, value.sort, next)?;
+    let other = otherwise(raw, body, around, cases.next)?;
+    let tree = Stmt::test(raw.at, value, cases.cases, other.other);
+    Ok(with_next(other.next, tree))
 }
 
 /// The statements of a list whose labels are in the context.

@@ -1,12 +1,12 @@
 use Rattle.std.proofs.Common.{◌≡◌, ◌∙◌, ◌+◌, List, [], ◌∷◌, ◌++◌, Ok, ap, arith, drop, false, refl, length, map, subst, sym, true}
-use Rattle.raw_trees.specs.Plain.{args_of as raw_args_of, exprs_of as raw_exprs_of, steps_of as raw_steps_of}
-use Rattle.raw_trees.specs.Views.{view_arg as view_raw_arg, view_expr as view_raw, view_name, view_step as view_raw_step}
+use Rattle.raw_trees.specs.Plain.{Group, Not, Signed, args_of as raw_args_of, exprs_of as raw_exprs_of, steps_of as raw_steps_of}
+use Rattle.raw_trees.specs.Views.{view_arg as view_raw_arg, view_expr as view_raw, view_form, view_name, view_step as view_raw_step}
 use Rattle.rapid_model.specs.declared.operator.Operator.{Operator}
 use Rattle.typed_trees.specs.declared.expr.Arg.{Arg}
 use Rattle.typed_trees.specs.declared.expr.Expr.{Expr}
 use Rattle.rule_checks.specs.TypeChecks.{Fails, Checked}
 use Rattle.typed_trees.specs.Plain
-use Rattle.typed_trees.specs.Plain.{MoreArgs, MoreExprs, TypedArgs, TypedArg, TypedExpr, TypedExprs, args_of, exprs_of, steps_of}
+use Rattle.typed_trees.specs.Plain.{MoreArgs, MoreExprs, TypedArgs, TypedArg, TypedExpr, TypedExprs, args_of, exprs_of}
 use Rattle.typed_trees.specs.Views.{view_arg, view_expr, view_step}
 use Rattle.rule_checks.specs.declared.rule.TypeRule.TheVariants.{ArgName, BadRef, TypeClash}
 use Rattle.rule_checks.specs.Checks.{◌>>=◌, must}
@@ -15,14 +15,14 @@ use Rattle.named_data.specs.declared.wanted.Wanted.TheVariants.{Any, Nothing}
 use Rattle.named_data.specs.Data.{NamedPart, given, named}
 use Rattle.named_data.specs.Rules.{fail, at_byte}
 use Rattle.named_data.specs.Views.{view_site}
-use Rattle.named_data.specs.Wants.{first_operand, needed_components, of_component}
+use Rattle.named_data.specs.Wants.{clash, first_operand, fits, needed_components, of_component}
 use Rattle.expr_types.specs.Arguments.{argument, is_whole, lent_as, lent_of, lent_whole, meeting_meant, signal_meant}
 use Rattle.expr_types.specs.Calls.{Called, after, needed_by, option_with, taking}
 use Rattle.expr_types.specs.Places.{no_meeting, place_in}
 use Rattle.expr_types.specs.Typing.{TypedRest, aggregate, arguments, call, elements, index_in, sort_of, steps, typed}
 use Rattle.expr_types.specs.Views.{view_called, view_chain, view_part, view_signature, view_taking}
 use Rattle.expr_types.proofs.Loops.{arguments_end, arguments_step, arguments_stop, behind, more_steps, elements_end, elements_step, elements_stop, steps_clash, steps_end, steps_step, steps_stop, stops}
-use Rattle.expr_types.proofs.Shapes.{along, argument_by_reference, argument_of_array, argument_of_sort, breaks, by_name, exits, meeting_by, needed_argument, needed_by_first, needed_by_none, optional_argument, pers_name_by, signal_by, sort_view, typed_aggregate, typed_call, typed_chain, valued_argument, valued_from}
+use Rattle.expr_types.proofs.Shapes.{aggregate_form, along, argument_by_reference, argument_of_array, argument_of_sort, breaks, by_name, call_form, chain_after, chain_form, exits, meeting_by, needed_argument, needed_by_first, needed_by_none, optional_argument, pers_name_by, signal_by, typed_aggregate, typed_call, typed_chain, valued_argument, valued_from}
 use Rattle.expr_types.proofs.typing.+typing.Goals as goal
 
 pub argument-returns-in_err-place-in-Var : goal.argument-returns-in_err-place-in-Var
@@ -281,64 +281,137 @@ arguments-returns t c =
     ap (λ args. arguments site (raw_args_of (map view_raw_arg args)) (taking (view_signature c.args.signature.now))) (sym c.deref-arg-items.ensures.value) ∙ sym c.loop-arg.invariant
     ∙ arguments_end site c.deref-arg-items.result.now (view_taking c.loop-arg.left) c.loop-arg.arg-index c.loop-arg.done.items c.loop-arg-test.false
 
-pub typed-returns-in_err-elements-in-Aggregate : goal.typed-returns-in_err-elements-in-Aggregate
-typed-returns-in_err-elements-in-Aggregate t c =
-    let site = view_site c.args.site.now in
-    let want = c.args.want in
-    exits view_expr c.from_residual-in_err-elements-in-Aggregate.result c.in_err-elements-in-Aggregate.field-0.0 _ c.from_residual-in_err-elements-in-Aggregate.ensures.1
-    (stops (λ (r : Checked TypedExprs). r >>= (λ ts. aggregate site want c.args.raw.now.at (raw_exprs_of (map view_raw c.in-Aggregate.values.items)) ts)) (λ b. refl) c.in_err-elements-in-Aggregate.field-0.0 (elements site (raw_exprs_of (map view_raw c.in-Aggregate.values.items)) (needed_components want)) _ (typed_aggregate site c.args.raw.now c.in-Aggregate.values want c.in-Aggregate.is) c.in_err-elements-in-Aggregate.ensures)
+pub typed-returns-in-Number : goal.typed-returns-in-Number
+typed-returns-in-Number t c =
+    along view_expr c.number.result _ _ (ap (λ form. typed (view_site c.args.site.now) (view_form c.args.raw.now.at form) c.args.want) c.in-Number.is) c.number.ensures
 
-pub typed-returns-in_ok-elements-in-Aggregate : goal.typed-returns-in_ok-elements-in-Aggregate
-typed-returns-in_ok-elements-in-Aggregate t c =
-    let site = view_site c.args.site.now in
-    let want = c.args.want in
-    let ts = exprs_of (map view_expr c.in_ok-elements-in-Aggregate.field-0.items) in
-    along view_expr c.aggregate.result _ _ (typed_aggregate site c.args.raw.now c.in-Aggregate.values want c.in-Aggregate.is ∙ ap (λ (r : Checked TypedExprs). r >>= (λ ts. aggregate site want c.args.raw.now.at (raw_exprs_of (map view_raw c.in-Aggregate.values.items)) ts)) c.in_ok-elements-in-Aggregate.ensures ∙ ap (λ list. aggregate site want c.args.raw.now.at (raw_exprs_of (map view_raw list)) ts) (sym c.deref-in-Aggregate.ensures.value)) c.aggregate.ensures
+pub typed-returns-in-Text : goal.typed-returns-in-Text
+typed-returns-in-Text t c =
+    along view_expr c.quoted.result _ _ (ap (λ form. typed (view_site c.args.site.now) (view_form c.args.raw.now.at form) c.args.want) c.in-Text.is) c.quoted.ensures
 
-pub typed-returns-in_err-typed_args-in-Call : goal.typed-returns-in_err-typed_args-in-Call
-typed-returns-in_err-typed_args-in-Call t c =
-    let site = view_site c.args.site.now in
-    let want = c.args.want in
-    let called = view_called c.in_ok-called-in-Call.called in
-    exits view_expr c.from_residual-in_err-typed_args-in-Call.result c.in_err-typed_args-in-Call.field-0.0 _ c.from_residual-in_err-typed_args-in-Call.ensures.1
-    (stops (λ (r : Checked TypedArgs). r >>= (λ ts. call site want c.args.raw.now.at called (raw_args_of (map view_raw_arg c.in-Call.args.items)) ts)) (λ b. refl) c.in_err-typed_args-in-Call.field-0.0 (arguments site (raw_args_of (map view_raw_arg c.in-Call.args.items)) (taking called.signature)) _ (typed_call site c.args.raw.now c.in-Call.name c.in-Call.args want c.in-Call.is ∙ ap (λ (r : Checked Called). r >>= (λ called. arguments site (raw_args_of (map view_raw_arg c.in-Call.args.items)) (taking called.signature) >>= (λ ts. call site want c.args.raw.now.at called (raw_args_of (map view_raw_arg c.in-Call.args.items)) ts))) c.in_ok-called-in-Call.ensures) c.in_err-typed_args-in-Call.ensures)
+pub typed-returns-in-Bool : goal.typed-returns-in-Bool
+typed-returns-in-Bool t c =
+    along view_expr c.truth.result _ _ (ap (λ form. typed (view_site c.args.site.now) (view_form c.args.raw.now.at form) c.args.want) c.in-Bool.is) c.truth.ensures
 
-pub typed-returns-in_ok-typed_args-in-Call : goal.typed-returns-in_ok-typed_args-in-Call
-typed-returns-in_ok-typed_args-in-Call t c =
+pub typed-returns-in-Place : goal.typed-returns-in-Place
+typed-returns-in-Place t c =
+    along view_expr c.placed.result _ _ (ap (λ form. typed (view_site c.args.site.now) (view_form c.args.raw.now.at form) c.args.want) c.in-Place.is) c.placed.ensures
+
+pub typed-returns-in-Group : goal.typed-returns-in-Group
+typed-returns-in-Group t c =
     let site = view_site c.args.site.now in
-    let want = c.args.want in
-    let called = view_called c.in_ok-called-in-Call.called in
-    let ts = args_of (map view_arg c.in_ok-typed_args-in-Call.typed_args.items) in
-    along view_expr c.call.result _ _ (typed_call site c.args.raw.now c.in-Call.name c.in-Call.args want c.in-Call.is ∙ ap (λ (r : Checked Called). r >>= (λ called. arguments site (raw_args_of (map view_raw_arg c.in-Call.args.items)) (taking called.signature) >>= (λ ts. call site want c.args.raw.now.at called (raw_args_of (map view_raw_arg c.in-Call.args.items)) ts))) c.in_ok-called-in-Call.ensures ∙ ap (λ (r : Checked TypedArgs). r >>= (λ ts. call site want c.args.raw.now.at called (raw_args_of (map view_raw_arg c.in-Call.args.items)) ts)) c.in_ok-typed_args-in-Call.ensures ∙ ap (λ list. call site want c.args.raw.now.at called (raw_args_of (map view_raw_arg list)) ts) (sym c.deref-in-Call.ensures.value)) c.call.ensures
+    let at = c.args.raw.now.at in
+    along view_expr c.grouped.result _ _
+    (ap (λ form. typed site (view_form at form) c.args.want) c.in-Group.is ∙ ap (λ inner. typed site (Group at (view_raw inner)) c.args.want) (sym c.deref.ensures)) c.grouped.ensures
+
+pub typed-returns-in-Aggregate : goal.typed-returns-in-Aggregate
+typed-returns-in-Aggregate t c =
+    along view_expr c.bracketed.result _ _ (ap (λ e. typed (view_site c.args.site.now) e c.args.want) (aggregate_form c.args.raw.now c.in-Aggregate.values c.in-Aggregate.is)) c.bracketed.ensures
+
+pub typed-returns-in-Call : goal.typed-returns-in-Call
+typed-returns-in-Call t c =
+    along view_expr c.invoked.result _ _ (ap (λ e. typed (view_site c.args.site.now) e c.args.want) (call_form c.args.raw.now c.in-Call.name c.in-Call.args c.in-Call.is)) c.invoked.ensures
+
+pub typed-returns-in-Not : goal.typed-returns-in-Not
+typed-returns-in-Not t c =
+    let site = view_site c.args.site.now in
+    let at = c.args.raw.now.at in
+    along view_expr c.negated.result _ _
+    (ap (λ form. typed site (view_form at form) c.args.want) c.in-Not.is ∙ ap (λ operand. typed site (Not at (view_raw operand)) c.args.want) (sym c.deref-in-Not.ensures)) c.negated.ensures
+
+pub typed-returns-in-Signed : goal.typed-returns-in-Signed
+typed-returns-in-Signed t c =
+    let site = view_site c.args.site.now in
+    let at = c.args.raw.now.at in
+    along view_expr c.signed.result _ _
+    (ap (λ form. typed site (view_form at form) c.args.want) c.in-Signed.is ∙ ap (λ operand. typed site (Signed at c.in-Signed.minus (view_raw operand)) c.args.want) (sym c.deref-in-Signed.ensures)) c.signed.ensures
 
 pub typed-returns-in_err-value-in-Chain : goal.typed-returns-in_err-value-in-Chain
 typed-returns-in_err-value-in-Chain t c =
     let site = view_site c.args.site.now in
     let want = c.args.want in
     let at = c.args.raw.now.at in
-    exits view_expr c.from_residual-in_err-value-in-Chain.result c.in_err-value-in-Chain.field-0.0 _ c.from_residual-in_err-value-in-Chain.ensures.1
-    (stops (λ (r : Checked TypedExpr). r >>= (λ t. steps site (raw_steps_of (map view_raw_step c.in-Chain.rest.items)) at (sort_of t) >>= (λ r. given site want at r.sort (Plain.Chain at r.sort t r.steps)))) (λ b. refl) c.in_err-value-in-Chain.field-0.0 (typed site (view_raw c.deref-in-Chain.result.now) c.first_operand.result) _ (typed_chain site c.args.raw.now c.in-Chain.first c.in-Chain.rest want c.in-Chain.is ∙ ap (λ (r : Checked TypedExpr). r >>= (λ t. steps site (raw_steps_of (map view_raw_step c.in-Chain.rest.items)) at (sort_of t) >>= (λ r. given site want at r.sort (Plain.Chain at r.sort t r.steps)))) (ap (λ first. typed site (view_raw first) (first_operand (raw_steps_of (map view_raw_step c.in-Chain.rest.items)))) (sym c.deref-in-Chain.ensures) ∙ ap (λ w. typed site (view_raw c.deref-in-Chain.result.now) w) (ap (λ list. first_operand (raw_steps_of (map view_raw_step list))) (sym c.deref-in-Chain-2.ensures.value) ∙ sym c.first_operand.ensures))) c.in_err-value-in-Chain.ensures)
+    let steps_behind = raw_steps_of (map view_raw_step c.in-Chain.rest.items) in
+    let behind_first : TypedExpr → Checked TypedExpr = λ t. steps site steps_behind at (sort_of t) >>= (λ r. given site want at r.sort (Plain.Chain at r.sort t r.steps)) in
+    exits view_expr c.from_residual.result c.in_err-value-in-Chain.field-0.0 _ c.from_residual.ensures.1
+    (stops (λ (r : Checked TypedExpr). r >>= behind_first) (λ b. refl) c.in_err-value-in-Chain.field-0.0 (typed site (view_raw c.deref-in-Chain.result.now) c.first_operand.result) _
+    (ap (λ e. typed site e want) (chain_form c.args.raw.now c.in-Chain.first c.in-Chain.rest c.in-Chain.is) ∙ typed_chain site want at (view_raw c.in-Chain.first.value) steps_behind
+    ∙ ap (λ first. typed site (view_raw first) (first_operand steps_behind) >>= behind_first) (sym c.deref-in-Chain.ensures)
+    ∙ ap (λ w. typed site (view_raw c.deref-in-Chain.result.now) w >>= behind_first) (ap (λ list. first_operand (raw_steps_of (map view_raw_step list))) (sym c.deref-in-Chain-2.ensures.value) ∙ sym c.first_operand.ensures)) c.in_err-value-in-Chain.ensures)
 
-pub typed-returns-in_err-chain-in-Chain : goal.typed-returns-in_err-chain-in-Chain
-typed-returns-in_err-chain-in-Chain t c =
+pub typed-returns-in_ok-value-in-Chain : goal.typed-returns-in_ok-value-in-Chain
+typed-returns-in_ok-value-in-Chain t c =
     let site = view_site c.args.site.now in
     let want = c.args.want in
-    let at = c.args.raw.now.at in
-    let value = c.in_ok-value-in-Chain.value in
-    let tree = view_expr value in
-    let behind_first = λ (r : Checked TypedRest). r >>= (λ r. given site want at r.sort (Plain.Chain at r.sort tree r.steps)) in
-    exits view_expr c.from_residual-in_err-chain-in-Chain.result c.in_err-chain-in-Chain.field-0.0 _ c.from_residual-in_err-chain-in-Chain.ensures.1
-    (stops behind_first (λ b. refl) c.in_err-chain-in-Chain.field-0.0 (steps site (raw_steps_of (map view_raw_step c.in-Chain.rest.items)) at value.sort) _ (typed_chain site c.args.raw.now c.in-Chain.first c.in-Chain.rest want c.in-Chain.is ∙ ap (λ (r : Checked TypedExpr). r >>= (λ t. steps site (raw_steps_of (map view_raw_step c.in-Chain.rest.items)) at (sort_of t) >>= (λ r. given site want at r.sort (Plain.Chain at r.sort t r.steps)))) (ap (λ first. typed site (view_raw first) (first_operand (raw_steps_of (map view_raw_step c.in-Chain.rest.items)))) (sym c.deref-in-Chain.ensures) ∙ ap (λ w. typed site (view_raw c.deref-in-Chain.result.now) w) (ap (λ list. first_operand (raw_steps_of (map view_raw_step list))) (sym c.deref-in-Chain-2.ensures.value) ∙ sym c.first_operand.ensures) ∙ c.in_ok-value-in-Chain.ensures)
-    ∙ ap (λ sort. behind_first (steps site (raw_steps_of (map view_raw_step c.in-Chain.rest.items)) at sort)) (sort_view value.at value.sort value.form)) c.in_err-chain-in-Chain.ensures)
+    let rest = raw_steps_of (map view_raw_step c.in-Chain.rest.items) in
+    let first : typed site (view_raw c.in-Chain.first.value) (first_operand rest) ≡ Ok (view_expr c.in_ok-value-in-Chain.value) = ap (λ first. typed site (view_raw first) (first_operand rest)) (sym c.deref-in-Chain.ensures)
+    ∙ ap (λ w. typed site (view_raw c.deref-in-Chain.result.now) w) (ap (λ list. first_operand (raw_steps_of (map view_raw_step list))) (sym c.deref-in-Chain-2.ensures.value) ∙ sym c.first_operand.ensures) ∙ c.in_ok-value-in-Chain.ensures in
+    along view_expr c.chained.result _ _ (ap (λ e. typed site e want) (chain_form c.args.raw.now c.in-Chain.first c.in-Chain.rest c.in-Chain.is)) (c.chained.ensures (view_raw c.in-Chain.first.value) first)
 
-pub typed-returns-in_ok-tree-in-Chain : goal.typed-returns-in_ok-tree-in-Chain
-typed-returns-in_ok-tree-in-Chain t c =
+pub bracketed-returns-in_err-elements : goal.bracketed-returns-in_err-elements
+bracketed-returns-in_err-elements t c =
     let site = view_site c.args.site.now in
     let want = c.args.want in
-    let at = c.args.raw.now.at in
-    let value = c.in_ok-value-in-Chain.value in
-    let tree = view_expr value in
-    let behind_first = λ (r : Checked TypedRest). r >>= (λ r. given site want at r.sort (Plain.Chain at r.sort tree r.steps)) in
-    along view_expr c.given-in-Chain.result _ _ (typed_chain site c.args.raw.now c.in-Chain.first c.in-Chain.rest want c.in-Chain.is ∙ ap (λ (r : Checked TypedExpr). r >>= (λ t. steps site (raw_steps_of (map view_raw_step c.in-Chain.rest.items)) at (sort_of t) >>= (λ r. given site want at r.sort (Plain.Chain at r.sort t r.steps)))) (ap (λ first. typed site (view_raw first) (first_operand (raw_steps_of (map view_raw_step c.in-Chain.rest.items)))) (sym c.deref-in-Chain.ensures) ∙ ap (λ w. typed site (view_raw c.deref-in-Chain.result.now) w) (ap (λ list. first_operand (raw_steps_of (map view_raw_step list))) (sym c.deref-in-Chain-2.ensures.value) ∙ sym c.first_operand.ensures) ∙ c.in_ok-value-in-Chain.ensures)
-    ∙ ap (λ sort. behind_first (steps site (raw_steps_of (map view_raw_step c.in-Chain.rest.items)) at sort)) (sort_view value.at value.sort value.form)
-    ∙ ap behind_first c.in_ok-chain-in-Chain.ensures ∙ ap (λ (whole : TypedExpr). given site want at c.in_ok-chain-in-Chain.chain.sort whole) (sym c.in_ok-tree-in-Chain.ensures)) c.given-in-Chain.ensures
+    let at = c.args.at in
+    exits view_expr c.from_residual.result c.in_err-elements.field-0.0 _ c.from_residual.ensures.1
+    (stops (λ (r : Checked TypedExprs). r >>= (λ ts. aggregate site want at (raw_exprs_of (map view_raw c.args.values.now.items)) ts)) (λ b. refl) c.in_err-elements.field-0.0 (elements site (raw_exprs_of (map view_raw c.args.values.now.items)) (needed_components want)) _ (typed_aggregate site want at (raw_exprs_of (map view_raw c.args.values.now.items))) c.in_err-elements.ensures)
+
+pub bracketed-returns : goal.bracketed-returns
+bracketed-returns t c =
+    let site = view_site c.args.site.now in
+    let want = c.args.want in
+    let at = c.args.at in
+    let ts = exprs_of (map view_expr c.in_ok-elements.field-0.items) in
+    along view_expr c.aggregate.result _ _ (typed_aggregate site want at (raw_exprs_of (map view_raw c.args.values.now.items)) ∙ ap (λ (r : Checked TypedExprs). r >>= (λ ts. aggregate site want at (raw_exprs_of (map view_raw c.args.values.now.items)) ts)) c.in_ok-elements.ensures ∙ ap (λ list. aggregate site want at (raw_exprs_of (map view_raw list)) ts) (sym c.deref.ensures.value)) c.aggregate.ensures
+
+pub invoked-returns-in_err-typed_args : goal.invoked-returns-in_err-typed_args
+invoked-returns-in_err-typed_args t c =
+    let site = view_site c.args.site.now in
+    let want = c.args.want in
+    let at = c.args.at in
+    let called = view_called c.in_ok-called.called in
+    exits view_expr c.from_residual-in_err-typed_args.result c.in_err-typed_args.field-0.0 _ c.from_residual-in_err-typed_args.ensures.1
+    (stops (λ (r : Checked TypedArgs). r >>= (λ ts. call site want at called (raw_args_of (map view_raw_arg c.args.args.now.items)) ts)) (λ b. refl) c.in_err-typed_args.field-0.0 (arguments site (raw_args_of (map view_raw_arg c.args.args.now.items)) (taking called.signature)) _ (typed_call site want at (view_name c.args.name.now) (raw_args_of (map view_raw_arg c.args.args.now.items)) ∙ ap (λ (r : Checked Called). r >>= (λ called. arguments site (raw_args_of (map view_raw_arg c.args.args.now.items)) (taking called.signature) >>= (λ ts. call site want at called (raw_args_of (map view_raw_arg c.args.args.now.items)) ts))) c.in_ok-called.ensures) c.in_err-typed_args.ensures)
+
+pub invoked-returns : goal.invoked-returns
+invoked-returns t c =
+    let site = view_site c.args.site.now in
+    let want = c.args.want in
+    let at = c.args.at in
+    let called = view_called c.in_ok-called.called in
+    let ts = args_of (map view_arg c.in_ok-typed_args.typed_args.items) in
+    along view_expr c.call.result _ _ (typed_call site want at (view_name c.args.name.now) (raw_args_of (map view_raw_arg c.args.args.now.items)) ∙ ap (λ (r : Checked Called). r >>= (λ called. arguments site (raw_args_of (map view_raw_arg c.args.args.now.items)) (taking called.signature) >>= (λ ts. call site want at called (raw_args_of (map view_raw_arg c.args.args.now.items)) ts))) c.in_ok-called.ensures ∙ ap (λ (r : Checked TypedArgs). r >>= (λ ts. call site want at called (raw_args_of (map view_raw_arg c.args.args.now.items)) ts)) c.in_ok-typed_args.ensures ∙ ap (λ list. call site want at called (raw_args_of (map view_raw_arg list)) ts) (sym c.deref.ensures.value)) c.call.ensures
+
+pub chained-returns-in_err-chain : goal.chained-returns-in_err-chain
+chained-returns-in_err-chain t c = λ first is.
+    let site = view_site c.args.site.now in
+    let want = c.args.want in
+    let at = c.args.at in
+    let rest = raw_steps_of (map view_raw_step c.args.rest.now.items) in
+    let value = c.args.value in
+    exits view_expr c.from_residual.result c.in_err-chain.field-0.0 _ c.from_residual.ensures.1
+    (stops (λ (r : Checked TypedRest). r >>= (λ r. given site want at r.sort (Plain.Chain at r.sort (view_expr value) r.steps))) (λ b. refl) c.in_err-chain.field-0.0 (steps site rest at value.sort) _
+    (chain_after site want at first rest value is) c.in_err-chain.ensures)
+
+pub chained-returns-in_err-must_fit : goal.chained-returns-in_err-must_fit
+chained-returns-in_err-must_fit t c = λ first is.
+    let site = view_site c.args.site.now in
+    let want = c.args.want in
+    let at = c.args.at in
+    let rest = raw_steps_of (map view_raw_step c.args.rest.now.items) in
+    let value = c.args.value in
+    let done = view_chain c.in_ok-chain.chain in
+    exits view_expr c.from_residual-in_err-must_fit.result c.in_err-must_fit.field-0.0 _ c.from_residual-in_err-must_fit.ensures.1
+    (stops (λ (r : Checked (Unit {0})). r >>= (λ _. Ok (Plain.Chain at done.sort (view_expr value) done.steps))) (λ b. refl) c.in_err-must_fit.field-0.0 (must (fits want done.sort) (at_byte site at (clash want))) _
+    (chain_after site want at first rest value is ∙ ap (λ (r : Checked TypedRest). r >>= (λ r. given site want at r.sort (Plain.Chain at r.sort (view_expr value) r.steps))) c.in_ok-chain.ensures) c.in_err-must_fit.ensures)
+
+pub chained-returns : goal.chained-returns
+chained-returns t c = λ first is.
+    let site = view_site c.args.site.now in
+    let want = c.args.want in
+    let at = c.args.at in
+    let rest = raw_steps_of (map view_raw_step c.args.rest.now.items) in
+    let value = c.args.value in
+    let done = view_chain c.in_ok-chain.chain in
+    chain_after site want at first rest value is ∙ ap (λ (r : Checked TypedRest). r >>= (λ r. given site want at r.sort (Plain.Chain at r.sort (view_expr value) r.steps))) c.in_ok-chain.ensures
+    ∙ ap (λ (r : Checked (Unit {0})). r >>= (λ _. Ok (Plain.Chain at done.sort (view_expr value) done.steps))) c.in_ok-must_fit.ensures ∙ ap Ok (sym c.in_ok-tree.ensures)

@@ -3,26 +3,27 @@ use Rattle.std.proofs.lemmas.List.{map_push}
 use Rattle.std.specs.declared.alloc.Global.{Global}
 use Rattle.std.specs.declared.vec.Vec.{Vec}
 use Rattle.rapid_model.specs.declared.operator.Operator.TheVariants as operators
-use Rattle.raw_trees.specs.Plain.{arms_of as raw_arms_of, cases_of as raw_cases_of, stmts_of as raw_stmts_of}
-use Rattle.raw_trees.specs.Views.{view_arm as view_raw_arm, view_case as view_raw_case, view_expr as view_raw, view_stmt as view_raw_stmt}
+use Rattle.raw_trees.specs.Plain.{IfOne, arms_of as raw_arms_of, cases_of as raw_cases_of, stmts_of as raw_stmts_of}
+use Rattle.raw_trees.specs.Views.{view_arm as view_raw_arm, view_case as view_raw_case, view_expr as view_raw, view_name, view_stmt as view_raw_stmt, view_stmt_form as view_raw_form}
+use Rattle.raw_trees.proofs.Rows.{for_view, while_view}
 use Rattle.rapid_model.specs.declared.sort.Sort.TheVariants as sorts
 use Rattle.typed_trees.specs.declared.expr.Expr.{Expr}
 use Rattle.typed_trees.specs.declared.stmt.Stmt.{Stmt}
 use Rattle.typed_trees.specs.Plain
-use Rattle.typed_trees.specs.Plain.{TypedExpr, TypedExprs, exprs_of, stmts_of}
-use Rattle.typed_trees.specs.Views.{view_arm, view_case, view_expr, view_list, view_stmt}
+use Rattle.typed_trees.specs.Plain.{TypedExpr, TypedExprs, exprs_of}
+use Rattle.typed_trees.specs.Views.{view_arm, view_case, view_expr, view_stmt}
 use Rattle.rule_checks.specs.Checks.{◌>>=◌}
 use Rattle.rule_checks.specs.TypeChecks.{Checked}
 use Rattle.named_data.specs.declared.wanted.Wanted.TheVariants.{Is, Fits}
 use Rattle.named_data.specs.Views.{view_site}
 use Rattle.expr_types.specs.Typing.{typed, sort_of}
-use Rattle.stmt_types.specs.Bodies.{Bounds, Typed, bounds, branches, case_values, choices, counter_index, otherwise, stmt, stmts, with_next}
+use Rattle.stmt_types.specs.Bodies.{Bounds, Typed, bounds, branches, case_values, choices, otherwise, stmt, stmts, with_next}
 use Rattle.stmt_types.specs.Parts.{cases_in, else_in}
 use Rattle.stmt_types.specs.Views.{view_around, view_body, view_bounds, view_typed_arms, view_typed_cases, view_typed_else, view_typed_list, view_typed_one}
 use Rattle.expr_types.proofs.Loops.{behind, stops, then_more}
-use Rattle.expr_types.proofs.Shapes.{exits, sort_view}
+use Rattle.expr_types.proofs.Shapes.{along, exits, sort_view}
 use Rattle.stmt_types.proofs.Behind.{further, stops_at}
-use Rattle.stmt_types.proofs.Forms.{as_else, as_for, as_test, as_while, if_arms, if_given, no_arms, no_cases, stmt_for, stmt_test, stmt_while, test_cases, test_given}
+use Rattle.stmt_types.proofs.Forms.{as_else, as_for, as_test, as_while, if_arms, if_given, if_parts, no_arms, no_cases, stmt_for, stmt_test, stmt_while, test_cases, test_given, test_parts}
 use Rattle.stmt_types.proofs.Lists.{arm_front, arms_end, arms_more, case_front, cases_end, cases_more, inside, more_arms, more_cases, more_stmts, stmts_end, stmts_more, then_arms, then_cases}
 use Rattle.stmt_types.proofs.statements.+statements.Goals as goal
 
@@ -224,125 +225,128 @@ choices-returns t c =
     ∙ ap (λ cs. choices body (raw_cases_of (map view_raw_case cs)) site c.args.sort around c.args.next) (sym c.deref-values-items.ensures.value) ∙ sym c.loop-values.invariant
     ∙ cases_end body around site c.args.sort c.deref-values-items.result.now c.loop-values.values-index c.loop-values.number c.loop-values.done.items c.loop-values-test.false
 
-pub stmt-returns-in_err-list-in-For : goal.stmt-returns-in_err-list-in-For
-stmt-returns-in_err-list-in-For t c =
-    let body = view_body c.args.body.now in
-    let around = view_around c.args.around.now in
-    let s = c.args.raw.now in
-    let next = c.args.next in
-    let list = c.in-For.list in
-    let b = view_bounds c.in_ok-bounds-in-For.bounds in
-    let behind_number : next + 1 ≡ c.in_ok-number_after-in-For.field-0 = sym c.in_ok-number_after-in-For.ensures.ok in
-    let found = stmt_for body s around next c.in-For.name c.in-For.bounds list c.in-For.is
-    ∙ ap (λ there. bounds there (view_raw c.in-For.bounds.value.first) (view_raw c.in-For.bounds.value.last) (option_map view_raw c.in-For.bounds.value.step) >>= (λ b. inside body (record around { within = Some next }) list (next + 1) >>= as_for body s.at next b)) (sym c.site_at-site.ensures)
-    ∙ ap (λ (r : Checked Bounds). r >>= (λ b. inside body (record around { within = Some next }) list (next + 1) >>= as_for body s.at next b)) c.in_ok-bounds-in-For.ensures
-    ∙ ap (λ n. inside body (record around { within = Some next }) list n >>= as_for body s.at next b) behind_number
-    ∙ ap (λ a. inside body a list c.in_ok-number_after-in-For.field-0 >>= as_for body s.at next b) (sym c.in_loop.ensures) in
-    exits view_typed_one c.from_residual-in_err-list-in-For.result c.in_err-list-in-For.field-0.0 _ c.from_residual-in_err-list-in-For.ensures.1
-    (stops (λ (r : Checked (Typed Plain.TypedStmts)). r >>= as_for body s.at next b) (λ b. refl) c.in_err-list-in-For.field-0.0 (inside body (view_around c.in_loop.result) list c.in_ok-number_after-in-For.field-0) _ found c.in_err-list-in-For.ensures)
+pub stmt-returns-in-If : goal.stmt-returns-in-If
+stmt-returns-in-If t c =
+    let raw = c.args.raw.now in
+    along view_typed_one c.branched.result _ _ (ap (λ s. stmt (view_body c.args.body.now) s (view_around c.args.around.now) c.args.next) (if_parts raw c.in-If.arms c.in-If.other c.in-If.is)) c.branched.ensures
 
-pub stmt-returns-in_ok-tree-in-For : goal.stmt-returns-in_ok-tree-in-For
-stmt-returns-in_ok-tree-in-For t c =
+pub stmt-returns-in-IfOne : goal.stmt-returns-in-IfOne
+stmt-returns-in-IfOne t c =
     let body = view_body c.args.body.now in
     let around = view_around c.args.around.now in
-    let s = c.args.raw.now in
-    let next = c.args.next in
-    let list = c.in-For.list in
-    let b = view_bounds c.in_ok-bounds-in-For.bounds in
-    let behind_number : next + 1 ≡ c.in_ok-number_after-in-For.field-0 = sym c.in_ok-number_after-in-For.ensures.ok in
-    let found = stmt_for body s around next c.in-For.name c.in-For.bounds list c.in-For.is
-    ∙ ap (λ there. bounds there (view_raw c.in-For.bounds.value.first) (view_raw c.in-For.bounds.value.last) (option_map view_raw c.in-For.bounds.value.step) >>= (λ b. inside body (record around { within = Some next }) list (next + 1) >>= as_for body s.at next b)) (sym c.site_at-site.ensures)
-    ∙ ap (λ (r : Checked Bounds). r >>= (λ b. inside body (record around { within = Some next }) list (next + 1) >>= as_for body s.at next b)) c.in_ok-bounds-in-For.ensures
-    ∙ ap (λ n. inside body (record around { within = Some next }) list n >>= as_for body s.at next b) behind_number
-    ∙ ap (λ a. inside body a list c.in_ok-number_after-in-For.field-0 >>= as_for body s.at next b) (sym c.in_loop.ensures) in
-    let typed_list = c.in_ok-list-in-For.list in
-    let place : counter_index body next ≡ c.in_ok-local-in-For.local = cc c.in_ok-local-in-For.ensures in
-    found ∙ ap (λ (r : Checked (Typed Plain.TypedStmts)). r >>= as_for body s.at next b) c.in_ok-list-in-For.ensures
-    ∙ ap (λ p. Ok (with_next typed_list.next (Plain.For s.at p b.first b.last b.step (stmts_of (view_list typed_list.list))))) place
-    ∙ ap (λ tree. Ok (with_next typed_list.next tree)) (sym c.in_ok-tree-in-For.ensures) ∙ ap Ok (sym c.with_next-in-For.ensures)
+    let at = c.args.raw.now.at in
+    along view_typed_one c.branched_one.result _ _
+    (ap (λ form. stmt body (view_raw_form at form) around c.args.next) c.in-IfOne.is ∙ ap (λ then. stmt body (IfOne at (view_raw c.in-IfOne.test) (view_raw_stmt then)) around c.args.next) (sym c.deref.ensures)) c.branched_one.ensures
 
-pub stmt-returns-in_err-list-in-While : goal.stmt-returns-in_err-list-in-While
-stmt-returns-in_err-list-in-While t c =
-    let body = view_body c.args.body.now in
-    let around = view_around c.args.around.now in
-    let s = c.args.raw.now in
-    let next = c.args.next in
-    let list = c.in-While.list in
-    let test = view_expr c.in_ok-test-in-While.test in
-    let found = stmt_while body s around next c.in-While.test list c.in-While.is
-    ∙ ap (λ there. typed there (view_raw c.in-While.test) (Is sorts.Bool) >>= (λ t. inside body around list next >>= as_while s.at t)) (sym c.site_at-site.ensures)
-    ∙ ap (λ (r : Checked TypedExpr). r >>= (λ t. inside body around list next >>= as_while s.at t)) c.in_ok-test-in-While.ensures in
-    exits view_typed_one c.from_residual-in_err-list-in-While.result c.in_err-list-in-While.field-0.0 _ c.from_residual-in_err-list-in-While.ensures.1
-    (stops (λ (r : Checked (Typed Plain.TypedStmts)). r >>= as_while s.at test) (λ b. refl) c.in_err-list-in-While.field-0.0 (inside body around list next) _ found c.in_err-list-in-While.ensures)
+pub stmt-returns-in-For : goal.stmt-returns-in-For
+stmt-returns-in-For t c =
+    let raw = c.args.raw.now in
+    let is = ap (view_raw_form raw.at) c.in-For.is ∙ for_view raw.at c.in-For.name c.in-For.bounds c.in-For.list in
+    along view_typed_one c.counted.result _ _ (ap (λ s. stmt (view_body c.args.body.now) s (view_around c.args.around.now) c.args.next) is) (c.counted.ensures (view_name c.in-For.name))
 
-pub stmt-returns-in_ok-list-in-While : goal.stmt-returns-in_ok-list-in-While
-stmt-returns-in_ok-list-in-While t c =
-    let body = view_body c.args.body.now in
-    let around = view_around c.args.around.now in
-    let s = c.args.raw.now in
-    let next = c.args.next in
-    let list = c.in-While.list in
-    let test = view_expr c.in_ok-test-in-While.test in
-    let found = stmt_while body s around next c.in-While.test list c.in-While.is
-    ∙ ap (λ there. typed there (view_raw c.in-While.test) (Is sorts.Bool) >>= (λ t. inside body around list next >>= as_while s.at t)) (sym c.site_at-site.ensures)
-    ∙ ap (λ (r : Checked TypedExpr). r >>= (λ t. inside body around list next >>= as_while s.at t)) c.in_ok-test-in-While.ensures in
-    found ∙ ap (λ (r : Checked (Typed Plain.TypedStmts)). r >>= as_while s.at test) c.in_ok-list-in-While.ensures
-    ∙ ap (λ tree. Ok (with_next c.in_ok-list-in-While.list.next tree)) (sym c.repeat.ensures) ∙ ap Ok (sym c.with_next-in-While.ensures)
+pub stmt-returns-in-While : goal.stmt-returns-in-While
+stmt-returns-in-While t c =
+    let raw = c.args.raw.now in
+    let is = ap (view_raw_form raw.at) c.in-While.is ∙ while_view raw.at c.in-While.test c.in-While.list in
+    along view_typed_one c.repeated.result _ _ (ap (λ s. stmt (view_body c.args.body.now) s (view_around c.args.around.now) c.args.next) is) c.repeated.ensures
 
-pub stmt-returns-in_err-cases-in-Test : goal.stmt-returns-in_err-cases-in-Test
-stmt-returns-in_err-cases-in-Test t c =
+pub stmt-returns-in-Test : goal.stmt-returns-in-Test
+stmt-returns-in-Test t c =
+    let raw = c.args.raw.now in
+    along view_typed_one c.tested.result _ _ (ap (λ s. stmt (view_body c.args.body.now) s (view_around c.args.around.now) c.args.next) (test_parts raw c.in-Test.value c.in-Test.cases c.in-Test.other c.in-Test.is)) c.tested.ensures
+
+pub counted-returns-in_err-list : goal.counted-returns-in_err-list
+counted-returns-in_err-list t c = λ name.
     let body = view_body c.args.body.now in
     let around = view_around c.args.around.now in
-    let s = c.args.raw.now in
+    let at = c.args.at in
+    let next = c.args.next in
+    let raw = c.args.bounds.now.value in
+    let list = c.args.list.now in
+    let b = view_bounds c.in_ok-bounds.bounds in
+    let behind_number : next + 1 ≡ c.in_ok-number_after.field-0 = sym c.in_ok-number_after.ensures.ok in
+    let found = stmt_for body around next at name (view_raw raw.first) (view_raw raw.last) (option_map view_raw raw.step) list
+    ∙ ap (λ there. bounds there (view_raw raw.first) (view_raw raw.last) (option_map view_raw raw.step) >>= (λ b. inside body (record around { within = Some next }) list (next + 1) >>= as_for body at next b)) (sym c.site_at-site.ensures)
+    ∙ ap (λ (r : Checked Bounds). r >>= (λ b. inside body (record around { within = Some next }) list (next + 1) >>= as_for body at next b)) c.in_ok-bounds.ensures
+    ∙ ap (λ n. inside body (record around { within = Some next }) list n >>= as_for body at next b) behind_number
+    ∙ ap (λ a. inside body a list c.in_ok-number_after.field-0 >>= as_for body at next b) (sym c.in_loop.ensures) in
+    exits view_typed_one c.from_residual-in_err-list.result c.in_err-list.field-0.0 _ c.from_residual-in_err-list.ensures.1
+    (stops (λ (r : Checked (Typed Plain.TypedStmts)). r >>= as_for body at next b) (λ b. refl) c.in_err-list.field-0.0 (inside body (view_around c.in_loop.result) list c.in_ok-number_after.field-0) _ found c.in_err-list.ensures)
+
+pub repeated-returns-in_err-list : goal.repeated-returns-in_err-list
+repeated-returns-in_err-list t c =
+    let body = view_body c.args.body.now in
+    let around = view_around c.args.around.now in
+    let at = c.args.at in
+    let next = c.args.next in
+    let list = c.args.list.now in
+    let test = view_expr c.in_ok-test.test in
+    let found = stmt_while body around next at (view_raw c.args.test.now) list
+    ∙ ap (λ there. typed there (view_raw c.args.test.now) (Is sorts.Bool) >>= (λ t. inside body around list next >>= as_while at t)) (sym c.site_at-site.ensures)
+    ∙ ap (λ (r : Checked TypedExpr). r >>= (λ t. inside body around list next >>= as_while at t)) c.in_ok-test.ensures in
+    exits view_typed_one c.from_residual-in_err-list.result c.in_err-list.field-0.0 _ c.from_residual-in_err-list.ensures.1
+    (stops (λ (r : Checked (Typed Plain.TypedStmts)). r >>= as_while at test) (λ b. refl) c.in_err-list.field-0.0 (inside body around list next) _ found c.in_err-list.ensures)
+
+pub tested-returns-in_err-cases : goal.tested-returns-in_err-cases
+tested-returns-in_err-cases t c =
+    let body = view_body c.args.body.now in
+    let around = view_around c.args.around.now in
+    let at = c.args.raw.now.at in
+    let plain_cases = cases_in (view_raw_stmt c.args.raw.now) in
+    let plain_else = else_in (view_raw_stmt c.args.raw.now) in
     let next = c.args.next in
     let there = view_site c.site_at-site.result in
-    let value = c.in_ok-value-in-Test.value in
+    let value = c.in_ok-value.value in
     let tree = view_expr value in
-    let then_else : TypedExpr → Typed Plain.TypedCases → Checked (Typed Plain.TypedStmt) = λ t cs. otherwise body (else_in (view_raw_stmt s)) around cs.next >>= as_test s.at t cs in
-    let found = stmt_test body s around next c.in-Test.value c.in-Test.cases c.in-Test.other c.in-Test.is
-    ∙ ap (λ w. typed w (view_raw c.in-Test.value) (Fits operators.Equal) >>= (λ t. choices body (cases_in (view_raw_stmt s)) w (sort_of t) around next >>= then_else t)) (sym c.site_at-site.ensures)
-    ∙ ap (λ (r : Checked TypedExpr). r >>= (λ t. choices body (cases_in (view_raw_stmt s)) there (sort_of t) around next >>= then_else t)) c.in_ok-value-in-Test.ensures
-    ∙ ap (λ sort. choices body (cases_in (view_raw_stmt s)) there sort around next >>= then_else tree) (sort_view value.at value.sort value.form) in
-    exits view_typed_one c.from_residual-in_err-cases-in-Test.result c.in_err-cases-in-Test.field-0.0 _ c.from_residual-in_err-cases-in-Test.ensures.1
-    (stops (λ (r : Checked (Typed Plain.TypedCases)). r >>= then_else tree) (λ b. refl) c.in_err-cases-in-Test.field-0.0 (choices body (cases_in (view_raw_stmt s)) there value.sort around next) _ found c.in_err-cases-in-Test.ensures)
+    let then_else : TypedExpr → Typed Plain.TypedCases → Checked (Typed Plain.TypedStmt) = λ t cs. otherwise body plain_else around cs.next >>= as_test at t cs in
+    let found = stmt_test body around next at (view_raw c.args.value.now) plain_cases plain_else
+    ∙ ap (λ w. typed w (view_raw c.args.value.now) (Fits operators.Equal) >>= (λ t. choices body plain_cases w (sort_of t) around next >>= then_else t)) (sym c.site_at-site.ensures)
+    ∙ ap (λ (r : Checked TypedExpr). r >>= (λ t. choices body plain_cases there (sort_of t) around next >>= then_else t)) c.in_ok-value.ensures
+    ∙ ap (λ sort. choices body plain_cases there sort around next >>= then_else tree) (sort_view value.at value.sort value.form) in
+    exits view_typed_one c.from_residual-in_err-cases.result c.in_err-cases.field-0.0 _ c.from_residual-in_err-cases.ensures.1
+    (stops (λ (r : Checked (Typed Plain.TypedCases)). r >>= then_else tree) (λ b. refl) c.in_err-cases.field-0.0 (choices body plain_cases there value.sort around next) _ found c.in_err-cases.ensures)
 
-pub stmt-returns-in_err-other-in-Test : goal.stmt-returns-in_err-other-in-Test
-stmt-returns-in_err-other-in-Test t c =
+pub tested-returns-in_err-other : goal.tested-returns-in_err-other
+tested-returns-in_err-other t c =
     let body = view_body c.args.body.now in
     let around = view_around c.args.around.now in
-    let s = c.args.raw.now in
+    let at = c.args.raw.now.at in
+    let plain_cases = cases_in (view_raw_stmt c.args.raw.now) in
+    let plain_else = else_in (view_raw_stmt c.args.raw.now) in
     let next = c.args.next in
     let there = view_site c.site_at-site.result in
-    let value = c.in_ok-value-in-Test.value in
+    let value = c.in_ok-value.value in
     let tree = view_expr value in
-    let then_else : TypedExpr → Typed Plain.TypedCases → Checked (Typed Plain.TypedStmt) = λ t cs. otherwise body (else_in (view_raw_stmt s)) around cs.next >>= as_test s.at t cs in
-    let found = stmt_test body s around next c.in-Test.value c.in-Test.cases c.in-Test.other c.in-Test.is
-    ∙ ap (λ w. typed w (view_raw c.in-Test.value) (Fits operators.Equal) >>= (λ t. choices body (cases_in (view_raw_stmt s)) w (sort_of t) around next >>= then_else t)) (sym c.site_at-site.ensures)
-    ∙ ap (λ (r : Checked TypedExpr). r >>= (λ t. choices body (cases_in (view_raw_stmt s)) there (sort_of t) around next >>= then_else t)) c.in_ok-value-in-Test.ensures
-    ∙ ap (λ sort. choices body (cases_in (view_raw_stmt s)) there sort around next >>= then_else tree) (sort_view value.at value.sort value.form) in
-    let cases = view_typed_cases c.in_ok-cases-in-Test.cases in
-    exits view_typed_one c.from_residual-in_err-other-in-Test.result c.in_err-other-in-Test.field-0.0 _ c.from_residual-in_err-other-in-Test.ensures.1
-    (stops (λ (r : Checked (Typed Plain.TypedElse)). r >>= as_test s.at tree cases) (λ b. refl) c.in_err-other-in-Test.field-0.0 (otherwise body (else_in (view_raw_stmt s)) around cases.next) _
-    (found ∙ ap (λ (r : Checked (Typed Plain.TypedCases)). r >>= then_else tree) c.in_ok-cases-in-Test.ensures) c.in_err-other-in-Test.ensures)
+    let then_else : TypedExpr → Typed Plain.TypedCases → Checked (Typed Plain.TypedStmt) = λ t cs. otherwise body plain_else around cs.next >>= as_test at t cs in
+    let found = stmt_test body around next at (view_raw c.args.value.now) plain_cases plain_else
+    ∙ ap (λ w. typed w (view_raw c.args.value.now) (Fits operators.Equal) >>= (λ t. choices body plain_cases w (sort_of t) around next >>= then_else t)) (sym c.site_at-site.ensures)
+    ∙ ap (λ (r : Checked TypedExpr). r >>= (λ t. choices body plain_cases there (sort_of t) around next >>= then_else t)) c.in_ok-value.ensures
+    ∙ ap (λ sort. choices body plain_cases there sort around next >>= then_else tree) (sort_view value.at value.sort value.form) in
+    let cases = view_typed_cases c.in_ok-cases.cases in
+    exits view_typed_one c.from_residual-in_err-other.result c.in_err-other.field-0.0 _ c.from_residual-in_err-other.ensures.1
+    (stops (λ (r : Checked (Typed Plain.TypedElse)). r >>= as_test at tree cases) (λ b. refl) c.in_err-other.field-0.0 (otherwise body plain_else around cases.next) _
+    (found ∙ ap (λ (r : Checked (Typed Plain.TypedCases)). r >>= then_else tree) c.in_ok-cases.ensures) c.in_err-other.ensures)
 
-pub stmt-returns-in_ok-other-in-Test : goal.stmt-returns-in_ok-other-in-Test
-stmt-returns-in_ok-other-in-Test t c =
+pub tested-returns : goal.tested-returns
+tested-returns t c =
     let body = view_body c.args.body.now in
     let around = view_around c.args.around.now in
-    let s = c.args.raw.now in
+    let at = c.args.raw.now.at in
+    let plain_cases = cases_in (view_raw_stmt c.args.raw.now) in
+    let plain_else = else_in (view_raw_stmt c.args.raw.now) in
     let next = c.args.next in
     let there = view_site c.site_at-site.result in
-    let value = c.in_ok-value-in-Test.value in
+    let value = c.in_ok-value.value in
     let tree = view_expr value in
-    let then_else : TypedExpr → Typed Plain.TypedCases → Checked (Typed Plain.TypedStmt) = λ t cs. otherwise body (else_in (view_raw_stmt s)) around cs.next >>= as_test s.at t cs in
-    let found = stmt_test body s around next c.in-Test.value c.in-Test.cases c.in-Test.other c.in-Test.is
-    ∙ ap (λ w. typed w (view_raw c.in-Test.value) (Fits operators.Equal) >>= (λ t. choices body (cases_in (view_raw_stmt s)) w (sort_of t) around next >>= then_else t)) (sym c.site_at-site.ensures)
-    ∙ ap (λ (r : Checked TypedExpr). r >>= (λ t. choices body (cases_in (view_raw_stmt s)) there (sort_of t) around next >>= then_else t)) c.in_ok-value-in-Test.ensures
-    ∙ ap (λ sort. choices body (cases_in (view_raw_stmt s)) there sort around next >>= then_else tree) (sort_view value.at value.sort value.form) in
-    let cases = view_typed_cases c.in_ok-cases-in-Test.cases in
-    found ∙ ap (λ (r : Checked (Typed Plain.TypedCases)). r >>= then_else tree) c.in_ok-cases-in-Test.ensures
-    ∙ ap (λ (r : Checked (Typed Plain.TypedElse)). r >>= as_test s.at tree cases) c.in_ok-other-in-Test.ensures
-    ∙ ap (λ tree. Ok (with_next c.in_ok-other-in-Test.other.next tree)) (sym c.test-tree.ensures) ∙ ap Ok (sym c.with_next-in-Test.ensures)
+    let then_else : TypedExpr → Typed Plain.TypedCases → Checked (Typed Plain.TypedStmt) = λ t cs. otherwise body plain_else around cs.next >>= as_test at t cs in
+    let found = stmt_test body around next at (view_raw c.args.value.now) plain_cases plain_else
+    ∙ ap (λ w. typed w (view_raw c.args.value.now) (Fits operators.Equal) >>= (λ t. choices body plain_cases w (sort_of t) around next >>= then_else t)) (sym c.site_at-site.ensures)
+    ∙ ap (λ (r : Checked TypedExpr). r >>= (λ t. choices body plain_cases there (sort_of t) around next >>= then_else t)) c.in_ok-value.ensures
+    ∙ ap (λ sort. choices body plain_cases there sort around next >>= then_else tree) (sort_view value.at value.sort value.form) in
+    let cases = view_typed_cases c.in_ok-cases.cases in
+    found ∙ ap (λ (r : Checked (Typed Plain.TypedCases)). r >>= then_else tree) c.in_ok-cases.ensures
+    ∙ ap (λ (r : Checked (Typed Plain.TypedElse)). r >>= as_test at tree cases) c.in_ok-other.ensures
+    ∙ ap (λ tree. Ok (with_next c.in_ok-other.other.next tree)) (sym c.test-tree.ensures) ∙ ap Ok (sym c.with_next.ensures)
 
 pub otherwise-returns-in_err-inner-in-Some : goal.otherwise-returns-in_err-inner-in-Some
 otherwise-returns-in_err-inner-in-Some t c =
