@@ -4,6 +4,7 @@ ghost use Rattle.rapid_model.specs.Own.{has_ended, is_held, part_of};
 ghost use Rattle.rapid_model.specs.Requests.{of_pers};
 ghost use Rattle.rapid_model.specs.Paths.{has_path};
 ghost use Rattle.rapid_model.specs.declared.event.Event.{Event};
+ghost use Rattle.history_pages.specs.Pages.{given_in};
 ghost use Rattle.history_pages.specs.Requests.{is_lined};
 ghost use Rattle.cell_meaning.specs.Answers.{IsAnswer, is_enabled};
 ghost use Rattle.cell_meaning.specs.Counted.{can_be_served};
@@ -24,6 +25,7 @@ use crate::starting::starts_full;
 use history_pages::Pages;
 use rapid_limits::MOST_TASKS;
 use rapid_model::{Answer, Cell, Event, Fate, InputRow, Path, Request, Value};
+use rapid_num::Joints;
 use std::alloc::Global;
 use std::marker::Model;
 
@@ -282,6 +284,14 @@ impl Core {
         ensures { (event : Event) → slice_get self.now.history k ≡ Some event → result ≡ is_lined event.request }
     {
         self.pages.is_lined(k)
+    }
+
+    /// The actor and the joints of event `k`, from 0, if it is a setpoint that was given. Quicker than `event`.
+    pub fn given(&self, k: u32) -> Option<(u32, Joints)>
+        requires { k < length self.now.history }
+        ensures { (event : Event) → slice_get self.now.history k ≡ Some event → result ≡ given_in event }
+    {
+        self.pages.given(k)
     }
 
     /// The number of tasks.

@@ -22,7 +22,7 @@ use Rattle.cell_crew.specs.Courses.{SuitTasks}
 use Rattle.cell_crew.specs.Crew.{AskAsPrograms}
 use Rattle.cell_crew.proofs.Courses.{own_fit}
 use Rattle.cell_crew.proofs.Crews.{map_at}
-use Rattle.cell_state.specs.States.{TaskStateData, reached}
+use Rattle.cell_state.specs.States.{TaskStateData}
 use Rattle.cell_state.specs.Traces.{IsAskedAt, IsPlaceBy, event_place, place_after}
 use Rattle.cell_state.proofs.TreeStates.{tree_reached}
 

@@ -1,5 +1,5 @@
 -- An arm is at positions along its path, and each position is in the reach of a zone of the arm.
-use Rattle.std.proofs.Common.{◌≡◌, inl, inr, ℕ, zero, suc, ◌+◌, ◌<◌, ◌≤◌, Bool, true, false, cond, ℤ, pos, nat_abs, List, [], ◌∷◌, ◌++◌, length, map, take, drop, Option, Some, None, refl, sym, ◌∙◌, ap, subst, arith}
+use Rattle.std.proofs.Common.{◌≡◌, inl, inr, ℕ, zero, suc, ◌+◌, ◌<◌, ◌≤◌, Bool, true, false, cond, ℤ, pos, nat_abs, List, [], ◌∷◌, ◌++◌, length, map, take, drop, Option, Some, None, refl, ◌∙◌, ap, subst, arith}
 use Rattle.std.specs.Prelude.{IsTrue, ◌&&◌, ◌||◌, ◌==◌, nat_lt, int_lt, is_some, is_none, slice_get, unwrap_or}
 use Rattle.std.specs.List.{list_all, list_any, slice_index_or}
 use Rattle.std.specs.Option.{option_and_then}
@@ -25,7 +25,7 @@ use Rattle.rapid_model.specs.declared.zone_row.ZoneRow.{ZoneRow}
 use Rattle.rapid_model.proofs.Lists.{made_there}
 use Rattle.rapid_model.proofs.TaskRows.{starts_at}
 use Rattle.cell_meaning.specs.Premises.{AllAnswered}
-use Rattle.cell_meaning.proofs.Asked.{TaskMay, ScriptMay, who_may}
+use Rattle.cell_meaning.proofs.Asked.{TaskMay, who_may}
 use Rattle.zone_clearance.specs.Premises.{AreInReach, NamesAnAxis}
 use Rattle.controller.specs.ArmPaths.{given_by, setpoint_given}
 

@@ -1,7 +1,7 @@
 -- The gaps of a path, one segment after another, and the lines of them.
-use Rattle.std.proofs.Common.{◌≡◌, ℕ, zero, suc, ◌+◌, ◌<◌, ◌≤◌, Bool, true, false, cond, List, [], ◌∷◌, ◌++◌, length, take, Option, Some, None, refl, sym, ◌∙◌, ap, subst, arith, append-nil, append_assoc}
+use Rattle.std.proofs.Common.{◌≡◌, ℕ, zero, suc, ◌+◌, Bool, true, false, cond, List, [], ◌∷◌, ◌++◌, length, Option, Some, None, refl, sym, ◌∙◌, ap, subst, arith, append-nil, append_assoc}
 use Rattle.std.specs.Prelude.{IfSome, MatchOption, Result, Ok, Err, ⊤, filter_map, option_map, slice_get}
-use Rattle.std.specs.List.{AllZip, IsFirstBest, cons_option, enumerate_from, slice_index_or}
+use Rattle.std.specs.List.{AllZip, cons_option, enumerate_from, slice_index_or}
 use Rattle.std.proofs.lemmas.List.Elements.{filter_map-append}
 use Rattle.std.proofs.lemmas.Option.{get_or_from_slice_get}
 use Rattle.std.proofs.lemmas.Slice.Zip.{AllZip-long}
@@ -16,7 +16,7 @@ use Rattle.zone_clearance.specs.Gaps.{IsWritten}
 use Rattle.zone_clearance.specs.Premises.{IsSmall}
 use Rattle.zone_clearance.specs.declared.gap.Gap.{Gap}
 use Rattle.controller.specs.ArmPaths.{Segment, Waypoint, given_by, joined, or_start, waypoint_of, waypoints_of}
-use Rattle.controller.specs.Clearances.{Clearance, IsClearance, IsGapOf, gap_line, gap_lines, is_nearer, nearest_line, nearest_lines, zone_lines}
+use Rattle.controller.specs.Clearances.{Clearance, IsGapOf, gap_line, gap_lines, is_nearer, nearest_line, nearest_lines, zone_lines}
 use Rattle.controller.specs.Measured.{IsNearest, WritesOn, WritesPath, nearer_of}
 use Rattle.controller.specs.Printed.{Seen, Sunk}
 use Rattle.controller.specs.Written.{Writes}

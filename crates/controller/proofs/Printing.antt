@@ -2,17 +2,20 @@
 use Rattle.std.proofs.Common.{◌≡◌, ℕ, ◌+◌, ◌<◌, Bool, false, List, [], ◌∷◌, ◌++◌, length, drop, get_or, ap, sym, ◌∙◌, refl, subst, inl, inr, arith, append_assoc}
 use Rattle.std.specs.Prelude.{Some, map, slice_get}
 use Rattle.std.proofs.lemmas.Bool.{true≢false}
-use Rattle.std.proofs.lemmas.Option.{slice_get_cases, get_or_from_slice_get}
+use Rattle.std.proofs.lemmas.Option.{none-some, same_Some, slice_get_cases, get_or_from_slice_get}
+use Rattle.rapid_num.specs.declared.joints.Joints.{Joints}
 use Rattle.rapid_model.specs.CellData.{CellData}
 use Rattle.rapid_model.specs.declared.answer.Answer.{Answer}
+use Rattle.rapid_model.specs.declared.answer.Answer.TheVariants as answers
 use Rattle.rapid_model.specs.declared.event.Event.{Event}
 use Rattle.rapid_model.specs.declared.request.Request.{Request}
 use Rattle.rapid_model.specs.declared.request.Request.TheVariants as requests
 use Rattle.rapid_model.specs.declared.task_row.TaskRow.{TaskRow}
 use Rattle.rapid_model.specs.declared.fate.Fate.{Fate}
 use Rattle.cell_meaning.specs.Fates.{fate_after, fates_after}
+use Rattle.history_pages.specs.Pages.{given_in, given_to}
 use Rattle.history_pages.specs.Requests.{is_lined}
-use Rattle.history_text.specs.Lines.{fate_line, fate_lines, line_between, line_of, task_axes, task_name}
+use Rattle.history_text.specs.Lines.{fate_line, fate_lines, line_between, line_of, setpoint_line, task_axes, task_name}
 use Rattle.controller.proofs.Fates.{drop-fates_after}
 use Rattle.controller.specs.EventsShown.{shown_line}
 use Rattle.controller.specs.Printed.{Seen, Sunk}
@@ -127,3 +130,16 @@ without_line tasks history k read e is at none =
     let both : Some read ≡ Some e = sym is ∙ at in
     let same : read ≡ e = cc in
     ap (line_of tasks) (sym same) ∙ no_bytes (line_of tasks read) none
+
+-- the line of a setpoint that was given
+line_of_given : (tasks : List TaskRow) (own : ℕ) (request : Request) (answer : Answer) (actor : ℕ) (to : Joints) → Some (actor, to) ≡ given_to own request answer
+    → setpoint_line (task_name tasks actor) (task_axes tasks actor) to ≡ line_between (task_name tasks own) (task_axes tasks own) request answer
+line_of_given tasks own (requests.Setpoint joints) answers.Given actor to is =
+    ap (λ (p : ℕ × Joints). setpoint_line (task_name tasks p.0) (task_axes tasks p.0) p.1) (same_Some (actor, to) (own, joints) is)
+line_of_given tasks own (requests.Setpoint joints) _ actor to is = absurd (none-some (actor, to) (sym is))
+line_of_given tasks own _ answer actor to is = absurd (none-some (actor, to) (sym is))
+
+pub given_line : (full : Bool) (tasks : List TaskRow) (e : Event) (actor : ℕ) (to : Joints) → full ≡ false → Some (actor, to) ≡ given_in e
+    → setpoint_line (task_name tasks actor) (task_axes tasks actor) to ≡ shown_line full tasks e
+given_line full tasks e actor to short is =
+    line_of_given tasks e.actor e.request e.answer actor to is ∙ sym (ap (λ (b : Bool). shown_line b tasks e) short)

@@ -1,7 +1,7 @@
 -- The lines of one zone after another.
 use Rattle.std.proofs.Common.{◌≡◌, ℕ, zero, suc, ◌+◌, ◌<◌, ◌≤◌, true, List, [], ◌∷◌, ◌++◌, length, get_or, take, refl, sym, ◌∙◌, ap, subst, arith, append-nil, append_assoc}
 use Rattle.std.specs.Prelude.{Bool, Result, Ok, Err, ⊤}
-use Rattle.std.specs.List.{AllZip, list_all}
+use Rattle.std.specs.List.{list_all}
 use Rattle.std.proofs.lemmas.Bool.{and_parts}
 use Rattle.outside.specs.declared.failed.Failed.{Failed}
 use Rattle.rapid_model.specs.CellData.{CellData}
@@ -11,7 +11,7 @@ use Rattle.cell_meaning.specs.Fates.{fates_after}
 use Rattle.history_text.specs.Lines.{fate_lines}
 use Rattle.controller.specs.ArmPaths.{path_of}
 use Rattle.controller.specs.Clearances.{AreClearances, Clearance, IsClearance, clearance_lines, zone_lines}
-use Rattle.controller.specs.Measured.{WritesMeasured, WritesOn, WritesZone, WritesZones}
+use Rattle.controller.specs.Measured.{WritesMeasured, WritesZone, WritesZones}
 use Rattle.controller.specs.Printed.{Seen, Sunk}
 use Rattle.controller.specs.Written.{Writes}
 use Rattle.controller.proofs.Gains.{between, gained_none, writes_then, wrote_first}

@@ -1,7 +1,8 @@
 -- The path of an arm is walked one event of the history after another.
-use Rattle.std.proofs.Common.{◌≡◌, inl, inr, ℕ, ◌+◌, ◌<◌, ◌≤◌, Bool, true, false, cond, List, [], ◌∷◌, ◌++◌, length, take, Option, Some, None, refl, sym, ◌∙◌, subst, arith}
+use Rattle.std.proofs.Common.{◌≡◌, inl, inr, ℕ, ◌+◌, ◌<◌, ◌≤◌, Bool, true, false, cond, List, [], ◌∷◌, ◌++◌, length, take, Option, Some, None, refl, ap, sym, ◌∙◌, subst, arith}
 use Rattle.std.specs.Prelude.{IfSome, IsSome, Result, ⊤, slice_get, ◌==◌}
 use Rattle.std.specs.Option.{option_and_then}
+use Rattle.std.proofs.lemmas.Bool.Decides.{nat_tests}
 use Rattle.std.proofs.lemmas.List.{length-take, take_all}
 use Rattle.std.proofs.lemmas.Option.{same_Some, slice_get_cases, get_or_from_slice_get}
 use Rattle.outside.specs.declared.failed.Failed.{Failed}
@@ -9,34 +10,53 @@ use Rattle.rapid_num.specs.Reach.{is_position}
 use Rattle.rapid_num.specs.declared.joints.Joints.{Joints}
 use Rattle.rapid_model.specs.CellData.{CellData}
 use Rattle.rapid_model.specs.declared.answer.Answer.{Answer}
+use Rattle.rapid_model.specs.declared.answer.Answer.TheVariants as answers
 use Rattle.rapid_model.specs.declared.event.Event.{Event}
 use Rattle.rapid_model.specs.declared.request.Request.{Request}
 use Rattle.rapid_model.specs.declared.request.Request.TheVariants as requests
 use Rattle.rapid_model.specs.declared.task_row.TaskRow.{TaskRow}
 use Rattle.rapid_model.specs.declared.zone_row.ZoneRow.{ZoneRow}
-use Rattle.history_pages.specs.Requests.{is_lined}
+use Rattle.history_pages.specs.Pages.{given_in, given_to}
 use Rattle.cell_meaning.specs.Premises.{AllAnswered}
 use Rattle.zone_clearance.specs.Certificates.{AreFirstSides}
 use Rattle.zone_clearance.specs.Gaps.{IsGap}
-use Rattle.zone_clearance.specs.Premises.{AreInReach, IsSmall}
+use Rattle.zone_clearance.specs.Premises.{IsSmall}
 use Rattle.controller.specs.ArmPaths.{given_by, or_start, path_from, setpoint_given}
 use Rattle.controller.specs.Clearances.{gap_line, nearest_line}
 use Rattle.controller.specs.Measured.{WritesOn, WritesPath, WritesZone, nearer_of}
 use Rattle.controller.specs.declared.nearest.Nearest.{Nearest}
 use Rattle.controller.specs.Printed.{Seen}
-use Rattle.controller.proofs.ArmPositions.{ZoneArm, given_in_zone, starts_there, zone_axes, zone_in_reach}
+use Rattle.controller.proofs.ArmPositions.{ZoneArm, given_in_zone, starts_there, zone_axes}
 use Rattle.controller.proofs.Gains.{between}
 use Rattle.controller.proofs.Lists.{take-element}
 use Rattle.controller.proofs.PathGaps.{Walked, walk_begins, walk_ends, walk_given, walk_on, walk_stays}
 
--- an event whose request has no line gives no setpoint
-pub not_lined : (task : ℕ) (e : Event) → is_lined e.request ≡ false → given_by task e ≡ None
-not_lined task e is = by (e.actor == task) e.request e.answer is
+-- the joints that a task is given, by the actor and the joints of the setpoint that an event gives
+abbrev pub joints_for : ℕ → Option (ℕ × Joints) → Option Joints
+joints_for task None = None
+joints_for task (Some given) = cond (given.0 == task) (Some given.1) None
+
+pub given_by_own : (task : ℕ) (e : Event) → given_by task e ≡ joints_for task (given_in e)
+given_by_own task e = by e.request e.answer
   where
-    by : (own : Bool) (request : Request) (answer : Answer) → is_lined request ≡ false → cond own (setpoint_given request answer) None ≡ None
-    by false request answer is = refl
-    by true (requests.Setpoint to) answer is = cc
-    by true _ answer is = refl
+    neither : (own : Bool) → cond {A = Option Joints} own None None ≡ None
+    neither false = refl
+    neither true = refl
+
+    by : (request : Request) (answer : Answer) → cond (e.actor == task) (setpoint_given request answer) None ≡ joints_for task (given_to e.actor request answer)
+    by (requests.Setpoint to) answers.Given = refl
+    by (requests.Setpoint to) _ = neither (e.actor == task)
+    by _ answer = neither (e.actor == task)
+
+pub given_mine : (task : ℕ) (e : Event) (actor : ℕ) (to : Joints) → given_in e ≡ Some (actor, to) → actor ≡ task → Some to ≡ given_by task e
+given_mine task e actor to given mine =
+    let same : (actor == task) ≡ true = grind (arith, nat_tests, mine) in
+    sym (given_by_own task e ∙ ap (joints_for task) given ∙ ap (λ (own : Bool). cond own (Some to) None) same)
+
+pub given_others : (task : ℕ) (e : Event) (actor : ℕ) (to : Joints) → given_in e ≡ Some (actor, to) → (actor ≡ task → ⊥) → None ≡ given_by task e
+given_others task e actor to given others =
+    let apart : (actor == task) ≡ false = grind (arith, nat_tests, others) in
+    sym (given_by_own task e ∙ ap (joints_for task) given ∙ ap (λ (own : Bool). cond own (Some to) None) apart)
 
 -- where the arm of a zone starts
 pub some_start : (cell : CellData) (zone : ZoneRow) (arm : Option Joints) → arm ≡ option_and_then (λ (row : TaskRow). row.arm) (slice_get cell.tasks zone.task) → ZoneArm cell zone → IsSome arm

@@ -24,6 +24,7 @@ use command_words::{Action, is_migrate};
 use outside::{Shelf, Sink};
 use std::alloc::Global;
 use std::convert::AsSlice;
+use std::mem;
 
 /// Does what the command words say, unless they ask for `run` (`is_run`), with the script in the file CELL and the
 /// modules that it names. A refusal is one line on the second sink. Otherwise the first sink gets these lines:
@@ -125,7 +126,11 @@ fn do_prepared<O: Sink, E: Sink>(
         text,
     } = prepared;
     match action {
-        Action::Check => report_accepted(alloc, out, err),
+        Action::Check => {
+            // The process ends after this line, and frees the trees with it.
+            mem::forget(accepted);
+            report_accepted(alloc, out, err)
+        }
         Action::Round { full } => run_cell(alloc, accepted, Shown::Events { full }, out, err),
         Action::List => list_cell(alloc, &accepted, out, err),
         Action::Load { .. } => run_cell(alloc, accepted, Shown::Summary, out, err),

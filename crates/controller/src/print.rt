@@ -1,7 +1,7 @@
 ghost use Rattle.std.specs.Prelude.{◌≡◌, ◌<◌, ◌≤◌, [], ◌∷◌, map, length, slice_get, Some};
 ghost use Rattle.rapid_model.specs.declared.event.Event.{Event};
 ghost use Rattle.cell_meaning.specs.Fates.{fates_after};
-ghost use Rattle.history_text.specs.Lines.{fate_line, fate_lines};
+ghost use Rattle.history_text.specs.Lines.{fate_line, fate_lines, setpoint_line, task_axes, task_name};
 ghost use Rattle.controller.specs.Output.{lines_of};
 ghost use Rattle.controller.specs.EventsShown.{event_lines, shown_line};
 ghost use Rattle.controller.specs.Printed.{sunk};
@@ -11,10 +11,11 @@ use crate::print_summary::print_summary;
 use crate::shown::Shown;
 use arrayvec::ArrayString;
 use cell_core::Core;
-use history_text::{Names, has_line, line_of, names_of, write_fate};
+use history_text::{Names, has_line, line_of, names_of, write_fate, write_setpoint};
 use outside::{Failed, Sink};
 use rapid_limits::MOST_TASKS;
 use rapid_model::{Event, Fate, NameText, TaskRow};
+use rapid_num::Joints;
 
 /// Prints the lines of the events or their summary, and then the fate of each task. Takes no memory.
 pub(crate) fn print_run<O: Sink>(out: &mut O, core: &Core, shown: Shown) -> Result<(), Failed>
@@ -49,14 +50,28 @@ fn print_event<O: Sink>(out: &mut O, core: &Core, full: bool, k: u32) -> Result<
     requires { k < length core.now.history }
     ensures { (e : Event) → slice_get core.now.history k ≡ Some e → Writes (shown_line full core.now.cell.tasks e ∷ []) result (sunk O.told O.calls O.faults out.old out.new) }
 {
-    if !full && !core.is_lined(k) {
-        return Ok(());
+    if !full {
+        if !core.is_lined(k) {
+            return Ok(());
+        }
+        if let Some((actor, to)) = core.given(k) {
+            return print_setpoint(out, core, actor, &to);
+        }
     }
     let event = core.event(k);
     if !full && !has_line(&event) {
         return Ok(());
     }
     print_line(out, &names_of(core.cell()), full, &event)
+}
+
+/// Prints the line of a setpoint that was given.
+fn print_setpoint<O: Sink>(out: &mut O, core: &Core, actor: u32, to: &Joints) -> Result<(), Failed>
+    ensures { Writes (setpoint_line (task_name core.now.cell.tasks actor) (task_axes core.now.cell.tasks actor) to.now ∷ []) result (sunk O.told O.calls O.faults out.old out.new) }
+{
+    let mut line = ArrayString::new();
+    write_setpoint(rows_of(core), actor, to, &mut line);
+    write_all(out, line.as_str().as_bytes())
 }
 
 /// Prints the line of an event.

@@ -20,7 +20,7 @@ use crate::print::print_fates;
 use crate::print_gap::{print_gap, print_nearest};
 use cell_core::Core;
 use outside::{Failed, Sink};
-use rapid_model::{Answer, Request, ZoneRow};
+use rapid_model::ZoneRow;
 use rapid_num::{Joints, Shape};
 use zone_clearance::{Gap, gap_of};
 
@@ -120,14 +120,8 @@ fn given_to(core: &Core, task: u32, k: u32) -> Option<Joints>
     requires { k < length core.now.history }
     ensures { (e : Event) → slice_get core.now.history k ≡ Some e → result ≡ given_by task e }
 {
-    if !core.is_lined(k) {
-        return None;
-    }
-    let event = core.event(k);
-    match (event.request, event.answer) {
-        (Request::Setpoint { to }, Answer::Given) if event.actor == task => Some(to),
-        _ => None,
-    }
+    let (actor, to) = core.given(k)?;
+    if actor == task { Some(to) } else { None }
 }
 
 /// The nearer one of two, the first one if they are as near.

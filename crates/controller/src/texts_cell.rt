@@ -13,10 +13,12 @@ use crate::check::{CheckedCell, check_modules};
 use crate::modules::{Modules, parse_texts};
 use crate::refused::Refused;
 use crate::report::{Report, refuse_file};
-use command_words::Command;
+use command_words::{Action, Command};
 use outside::Sink;
 use rapid_model::Script;
+use raw_trees::RawModule;
 use std::alloc::Global;
+use std::mem;
 
 /// The cell of a script and of the texts of its modules, whose files have these names. Otherwise the report of the
 /// refusal, whose line is printed. `failed` is why the next text could not be read, if there is one.
@@ -48,9 +50,19 @@ pub(crate) fn texts_cell<E: Sink>(
                 texts,
                 trees: trees.as_slice(),
             };
-            cell_of(alloc, command, script, files, &modules, err)
+            let cell = cell_of(alloc, command, script, files, &modules, err);
+            let_go(command.action, trees);
+            cell
         }
         Err(refused) => Err(refuse_file(alloc, err, command.script, files, refused)),
+    }
+}
+
+/// Frees the trees of the modules. Those of `check` are left to the end of the process, one line later.
+fn let_go(action: Action, trees: Vec<RawModule<'_>>) {
+    match action {
+        Action::Check => mem::forget(trees),
+        _ => drop(trees),
     }
 }
 

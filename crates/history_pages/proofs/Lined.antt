@@ -1,81 +1,172 @@
--- Whether a request can have a line is known from its form.
+-- Whether a request can have a line, and whether an event is a setpoint that was given, is known from the forms.
 use Rattle.std.proofs.Common.{◌≡◌, ℕ, Bool, true, false, ℤ, List, drop, slice_get, Option, None, Some, option_map, refl, sym, ap, ◌∙◌}
+use Rattle.std.proofs.lemmas.Bool.{true≢false}
 use Rattle.std.proofs.lemmas.Option.{none-some, same_Some}
 use Rattle.std.specs.List.{list_all}
 use Rattle.std.specs.Option.{option_and_then}
-use Rattle.std.specs.Prelude.{is_some}
+use Rattle.std.specs.Prelude.{is_some, IfSome}
 use Rattle.rapid_limits.specs.declared.TheConstants.{MOST_AXES}
 use Rattle.rapid_model.specs.declared.answer.Answer.{Answer}
+use Rattle.rapid_model.specs.declared.answer.Answer.TheVariants as answers
 use Rattle.rapid_model.specs.declared.event.Event.{Event}
 use Rattle.rapid_model.specs.declared.request.Request.{Request}
 use Rattle.rapid_model.specs.declared.request.Request.TheVariants as requests
 use Rattle.history_pages.specs.Answers.{answer_in}
-use Rattle.history_pages.specs.Packing.{event_in, event_of, told_in}
-use Rattle.history_pages.specs.Pages.{events_in}
+use Rattle.history_pages.specs.Packing.{event_from, event_in, event_of, told_in}
+use Rattle.history_pages.specs.Pages.{events_in, given_in, given_to}
 use Rattle.history_pages.specs.Requests.{is_lined, is_lined_form, request_in}
 use Rattle.history_pages.specs.Values.{joints_of, tail_count, tail_in, value_in}
 use Rattle.history_pages.specs.Words.{nums_in, shape_in, text_in}
+use Rattle.history_pages.specs.declared.answer_form.AnswerForm.{AnswerForm}
+use Rattle.history_pages.specs.declared.answer_form.AnswerForm.TheVariants as replies
 use Rattle.history_pages.specs.declared.head.Head.{Head}
 use Rattle.history_pages.specs.declared.request_form.RequestForm.{RequestForm}
 use Rattle.history_pages.specs.declared.request_form.RequestForm.TheVariants as forms
 use Rattle.history_pages.specs.declared.tail_form.TailForm.{TailForm}
 use Rattle.history_pages.proofs.Packed.{event_at}
 
+abbrev is_setpoint : Request → Bool
+is_setpoint (requests.Setpoint to) = true
+is_setpoint _ = false
+
+abbrev is_setpoint_form : RequestForm → Bool
+is_setpoint_form forms.Setpoint = true
+is_setpoint_form _ = false
+
+-- whether a request can have a line, and whether it asks for a setpoint
+abbrev tags : Request → Bool × Bool
+tags request = (is_lined request, is_setpoint request)
+
+abbrev tags_form : RequestForm → Bool × Bool
+tags_form form = (is_lined_form form, is_setpoint_form form)
+
 -- a request that is made of what is read, if something is
-made : {A : Type 0} (f : A → Request) (lined : Bool) → ((x : A) → lined ≡ is_lined (f x)) → (o : Option A) (request : Request) → option_map f o ≡ Some request → lined ≡ is_lined request
-made f lined each (Some x) request is = each x ∙ ap is_lined (same_Some (f x) request is)
-made f lined each None request is = absurd (none-some request is)
+made : {A : Type 0} (f : A → Request) (tag : Bool × Bool) → ((x : A) → tag ≡ tags (f x)) → (o : Option A) (request : Request) → option_map f o ≡ Some request → tag ≡ tags request
+made f tag each (Some x) request is = each x ∙ ap tags (same_Some (f x) request is)
+made f tag each None request is = absurd (none-some request is)
 
 -- a text to the operator has a line
 said : (form : TailForm) (words : List ℤ) (text : Option (List ℕ)) (request : Request)
-    → option_and_then (λ t. option_map (λ tail. requests.Say t tail) (tail_in form words)) text ≡ Some request → true ≡ is_lined request
-said form words (Some t) request is = made (λ tail. requests.Say t tail) true (λ tail. refl) (tail_in form words) request is
+    → option_and_then (λ t. option_map (λ tail. requests.Say t tail) (tail_in form words)) text ≡ Some request → (true, false) ≡ tags request
+said form words (Some t) request is = made (λ tail. requests.Say t tail) (true, false) (λ tail. refl) (tail_in form words) request is
 said form words None request is = absurd (none-some request is)
 
-lined_in : (form : RequestForm) (words : List ℤ) (request : Request) → request_in form words ≡ Some request → is_lined_form form ≡ is_lined request
-lined_in forms.Setpoint words request is = made (λ axes. requests.Setpoint (joints_of axes)) true (λ axes. refl) (nums_in MOST_AXES words) request is
-lined_in (forms.Say count tail) words request is = said tail words (text_in count (drop (tail_count tail) words)) request is
-lined_in (forms.WriteP form path pers) words request is = made (λ value. requests.WriteP pers path value) false (λ value. refl) (value_in form words) request is
-lined_in (forms.ZoneSet old temporary inside) words request is = made (λ shape. requests.ZoneSet old temporary shape) false (λ shape. refl) (shape_in inside words) request is
-lined_in (forms.ZoneTie old temporary inside value signal) words request is =
-    made (λ shape. requests.ZoneTie old temporary shape signal value) false (λ shape. refl) (shape_in inside words) request is
-lined_in (forms.Look told) words request is = ap is_lined (same_Some _ request is)
-lined_in (forms.ReadP path pers) words request is = ap is_lined (same_Some _ request is)
-lined_in (forms.TestSet path pers) words request is = ap is_lined (same_Some _ request is)
-lined_in (forms.ReadS signal) words request is = ap is_lined (same_Some _ request is)
-lined_in (forms.WriteS value signal) words request is = ap is_lined (same_Some _ request is)
-lined_in forms.Position words request is = ap is_lined (same_Some _ request is)
-lined_in (forms.Connect old trap) words request is = ap is_lined (same_Some _ request is)
-lined_in (forms.OrderSignal number single value signal) words request is = ap is_lined (same_Some _ request is)
-lined_in (forms.OrderPers number single pers) words request is = ap is_lined (same_Some _ request is)
-lined_in (forms.Sleep number) words request is = ap is_lined (same_Some _ request is)
-lined_in (forms.Watch number) words request is = ap is_lined (same_Some _ request is)
-lined_in (forms.Delete number) words request is = ap is_lined (same_Some _ request is)
-lined_in forms.Disable words request is = ap is_lined (same_Some _ request is)
-lined_in forms.Enable words request is = ap is_lined (same_Some _ request is)
-lined_in forms.Leave words request is = ap is_lined (same_Some _ request is)
-lined_in (forms.ZoneOn zone) words request is = ap is_lined (same_Some _ request is)
-lined_in (forms.ZoneOff zone) words request is = ap is_lined (same_Some _ request is)
-lined_in (forms.ZoneFree zone) words request is = ap is_lined (same_Some _ request is)
-lined_in (forms.Arrive tasks meeting) words request is = ap is_lined (same_Some _ request is)
-lined_in (forms.Hold seen) words request is = ap is_lined (same_Some _ request is)
-lined_in forms.Rise words request is = ap is_lined (same_Some _ request is)
-lined_in (forms.Input index) words request is = ap is_lined (same_Some _ request is)
-lined_in (forms.End fate) words request is = ap is_lined (same_Some _ request is)
+tags_in : (form : RequestForm) (words : List ℤ) (request : Request) → request_in form words ≡ Some request → tags_form form ≡ tags request
+tags_in forms.Setpoint words request is = made (λ axes. requests.Setpoint (joints_of axes)) (true, true) (λ axes. refl) (nums_in MOST_AXES words) request is
+tags_in (forms.Say count tail) words request is = said tail words (text_in count (drop (tail_count tail) words)) request is
+tags_in (forms.WriteP form path pers) words request is = made (λ value. requests.WriteP pers path value) (false, false) (λ value. refl) (value_in form words) request is
+tags_in (forms.ZoneSet old temporary inside) words request is = made (λ shape. requests.ZoneSet old temporary shape) (false, false) (λ shape. refl) (shape_in inside words) request is
+tags_in (forms.ZoneTie old temporary inside value signal) words request is =
+    made (λ shape. requests.ZoneTie old temporary shape signal value) (false, false) (λ shape. refl) (shape_in inside words) request is
+tags_in (forms.Look told) words request is = ap tags (same_Some _ request is)
+tags_in (forms.ReadP path pers) words request is = ap tags (same_Some _ request is)
+tags_in (forms.TestSet path pers) words request is = ap tags (same_Some _ request is)
+tags_in (forms.ReadS signal) words request is = ap tags (same_Some _ request is)
+tags_in (forms.WriteS value signal) words request is = ap tags (same_Some _ request is)
+tags_in forms.Position words request is = ap tags (same_Some _ request is)
+tags_in (forms.Connect old trap) words request is = ap tags (same_Some _ request is)
+tags_in (forms.OrderSignal number single value signal) words request is = ap tags (same_Some _ request is)
+tags_in (forms.OrderPers number single pers) words request is = ap tags (same_Some _ request is)
+tags_in (forms.Sleep number) words request is = ap tags (same_Some _ request is)
+tags_in (forms.Watch number) words request is = ap tags (same_Some _ request is)
+tags_in (forms.Delete number) words request is = ap tags (same_Some _ request is)
+tags_in forms.Disable words request is = ap tags (same_Some _ request is)
+tags_in forms.Enable words request is = ap tags (same_Some _ request is)
+tags_in forms.Leave words request is = ap tags (same_Some _ request is)
+tags_in (forms.ZoneOn zone) words request is = ap tags (same_Some _ request is)
+tags_in (forms.ZoneOff zone) words request is = ap tags (same_Some _ request is)
+tags_in (forms.ZoneFree zone) words request is = ap tags (same_Some _ request is)
+tags_in (forms.Arrive tasks meeting) words request is = ap tags (same_Some _ request is)
+tags_in (forms.Hold seen) words request is = ap tags (same_Some _ request is)
+tags_in forms.Rise words request is = ap tags (same_Some _ request is)
+tags_in (forms.Input index) words request is = ap tags (same_Some _ request is)
+tags_in (forms.End fate) words request is = ap tags (same_Some _ request is)
 
--- what is read from a head and words has the request that is read
-with_request : (actor : ℕ) (o : Option Answer) (request : Request) (e : Event) → option_map (event_of actor request) o ≡ Some e → request ≡ e.request
-with_request actor (Some answer) request e is = ap (λ (x : Event). x.request) (same_Some (event_of actor request answer) e is)
-with_request actor None request e is = absurd (none-some e is)
+-- whether an answer is that of a setpoint that was given
+abbrev is_given : Answer → Bool
+is_given answers.Given = true
+is_given _ = false
 
-of_request : (head : Head) (words : List ℤ) (o : Option Request) → o ≡ request_in head.request words → (e : Event)
-    → option_and_then (λ request. option_map (event_of head.actor request) (answer_in head.answer (told_in head.request) words)) o ≡ Some e → is_lined_form head.request ≡ is_lined e.request
-of_request head words (Some request) from e is =
-    lined_in head.request words request (sym from) ∙ ap is_lined (with_request head.actor (answer_in head.answer (told_in head.request) words) request e is)
-of_request head words None from e is = absurd (none-some e is)
+abbrev is_given_form : AnswerForm → Bool
+is_given_form replies.Given = true
+is_given_form _ = false
+
+-- an answer that is made of what is read, if something is
+answered : {A : Type 0} (f : A → Answer) → ((x : A) → false ≡ is_given (f x)) → (o : Option A) (answer : Answer) → option_map f o ≡ Some answer → false ≡ is_given answer
+answered f each (Some x) answer is = each x ∙ ap is_given (same_Some (f x) answer is)
+answered f each None answer is = absurd (none-some answer is)
+
+given_answer : (form : AnswerForm) (told : ℕ) (words : List ℤ) (answer : Answer) → answer_in form told words ≡ Some answer → is_given_form form ≡ is_given answer
+given_answer replies.Ok told words answer is = ap is_given (same_Some _ answer is)
+given_answer replies.Go told words answer is = ap is_given (same_Some _ answer is)
+given_answer (replies.Trap number) told words answer is = ap is_given (same_Some _ answer is)
+given_answer replies.Flood told words answer is = ap is_given (same_Some _ answer is)
+given_answer (replies.Val form) told words answer is = answered answers.Val (λ value. refl) (value_in form words) answer is
+given_answer (replies.Yes met) told words answer is = ap is_given (same_Some _ answer is)
+given_answer (replies.Bit bit) told words answer is = ap is_given (same_Some _ answer is)
+given_answer replies.At told words answer is = answered (λ axes. answers.At (joints_of axes)) (λ axes. refl) (nums_in MOST_AXES words) answer is
+given_answer replies.Given told words answer is = ap is_given (same_Some _ answer is)
+given_answer (replies.Stopped zone) told words answer is = ap is_given (same_Some _ answer is)
+given_answer (replies.Number number) told words answer is = ap is_given (same_Some _ answer is)
+given_answer replies.Already told words answer is = ap is_given (same_Some _ answer is)
+given_answer replies.Unknown told words answer is = ap is_given (same_Some _ answer is)
+given_answer replies.NoMore told words answer is = ap is_given (same_Some _ answer is)
+given_answer replies.ZoneUsed told words answer is = ap is_given (same_Some _ answer is)
+given_answer replies.ZoneFull told words answer is = ap is_given (same_Some _ answer is)
+given_answer replies.NoZone told words answer is = ap is_given (same_Some _ answer is)
+given_answer replies.Tied told words answer is = ap is_given (same_Some _ answer is)
+given_answer replies.Met told words answer is = ap is_given (same_Some _ answer is)
+given_answer replies.Apart told words answer is = ap is_given (same_Some _ answer is)
+
+-- what is read from a head and words has the request and the answer that are read
+parts_read : (actor : ℕ) (o : Option Request) (p : Option Answer) (e : Event) → option_and_then (λ request. option_map (event_of actor request) p) o ≡ Some e
+    → (o ≡ Some e.request) × (p ≡ Some e.answer)
+parts_read actor (Some request) (Some answer) e is =
+    let same : event_of actor request answer ≡ e = same_Some (event_of actor request answer) e is in
+    (ap (λ (x : Event). Some x.request) same, ap (λ (x : Event). Some x.answer) same)
+parts_read actor (Some request) None e is = absurd (none-some e is)
+parts_read actor None p e is = absurd (none-some e is)
+
+read_from : (head : Head) (words : List ℤ) (e : Event) → event_from head words ≡ Some e → (tags_form head.request ≡ tags e.request) × (is_given_form head.answer ≡ is_given e.answer)
+read_from head words e is =
+    let parts = parts_read head.actor (request_in head.request words) (answer_in head.answer (told_in head.request) words) e is in
+    (tags_in head.request words e.request parts.0, given_answer head.answer (told_in head.request) words e.answer parts.1)
 
 pub lined_at : (heads : List Head) (words : List ℤ) (k : ℕ) (head : Head) (e : Event) → slice_get heads k ≡ Some head → list_all (λ h. is_some (event_in words h)) heads ≡ true
     → slice_get (events_in heads words) k ≡ Some e → is_lined_form head.request ≡ is_lined e.request
 lined_at heads words k head e at there is =
-    let front : List ℤ = drop head.from words in
-    of_request head front (request_in head.request front) refl e (event_at heads words k head at there ∙ is)
+    ap (λ (t : Bool × Bool). t.0) (read_from head (drop head.from words) e (event_at heads words k head at there ∙ is)).0
+
+-- an event is no setpoint that was given if its request asks for none, or its answer gives none
+unasked : (actor : ℕ) (request : Request) (answer : Answer) → is_setpoint request ≡ false → None ≡ given_to actor request answer
+unasked actor (requests.Setpoint to) answer is = absurd (true≢false is)
+unasked actor _ answer is = refl
+
+ungiven : (actor : ℕ) (request : Request) (answer : Answer) → is_given answer ≡ false → None ≡ given_to actor request answer
+ungiven actor (requests.Setpoint to) answers.Given is = absurd (true≢false is)
+ungiven actor (requests.Setpoint to) _ is = refl
+ungiven actor _ answer is = refl
+
+-- and that is known from the forms
+other_request : (form : RequestForm) → (form ≡ forms.Setpoint → ⊥) → is_setpoint_form form ≡ false
+other_request forms.Setpoint differs = absurd (differs refl)
+other_request _ differs = refl
+
+other_answer : (form : AnswerForm) → (form ≡ replies.Given → ⊥) → is_given_form form ≡ false
+other_answer replies.Given differs = absurd (differs refl)
+other_answer _ differs = refl
+
+each_read : (words : List ℤ) (head : Head) (P : Event → Type 0) → ((e : Event) → event_in words head ≡ Some e → P e) → (o : Option Event) → event_in words head ≡ o → IfSome o P
+each_read words head P each (Some e) is = each e is
+each_read words head P each None is = tt
+
+pub unasked_in : (words : List ℤ) (head : Head) → (head.request ≡ forms.Setpoint → ⊥) → IfSome (event_in words head) (λ e. None ≡ given_in e)
+unasked_in words head differs =
+    let same : (e : Event) → event_in words head ≡ Some e → tags_form head.request ≡ tags e.request = λ e is. (read_from head (drop head.from words) e is).0 in
+    each_read words head (λ e. None ≡ given_in e)
+    (λ e is. unasked e.actor e.request e.answer (sym (ap (λ (t : Bool × Bool). t.1) (same e is)) ∙ other_request head.request differs)) (event_in words head) refl
+
+pub ungiven_in : (words : List ℤ) (head : Head) → (head.answer ≡ replies.Given → ⊥) → IfSome (event_in words head) (λ e. None ≡ given_in e)
+ungiven_in words head differs =
+    let same : (e : Event) → event_in words head ≡ Some e → is_given_form head.answer ≡ is_given e.answer = λ e is. (read_from head (drop head.from words) e is).1 in
+    each_read words head (λ e. None ≡ given_in e) (λ e is. ungiven e.actor e.request e.answer (sym (same e is) ∙ other_answer head.answer differs)) (event_in words head) refl

@@ -1,9 +1,12 @@
 -- What contracts see of pages, and what their heads and words keep.
-use Rattle.std.specs.Prelude.{◌≡◌, ℕ, ◌*◌, ◌^◌, ◌<◌, ◌≤◌, true, List, [], ◌∷◌, ◌++◌, length, map, ℤ, is_some, unwrap_or}
+use Rattle.std.specs.Prelude.{◌≡◌, ℕ, ◌*◌, ◌^◌, ◌<◌, ◌≤◌, true, List, [], ◌∷◌, ◌++◌, length, map, ℤ, Option, None, Some, is_some, unwrap_or}
 use Rattle.std.specs.List.{list_all}
-use Rattle.rapid_model.specs.declared.answer.Answer.TheVariants.{Ok}
+use Rattle.rapid_num.specs.declared.joints.Joints.{Joints}
+use Rattle.rapid_model.specs.declared.answer.Answer.{Answer}
+use Rattle.rapid_model.specs.declared.answer.Answer.TheVariants.{Given, Ok}
 use Rattle.rapid_model.specs.declared.event.Event.{Event}
-use Rattle.rapid_model.specs.declared.request.Request.TheVariants.{Rise}
+use Rattle.rapid_model.specs.declared.request.Request.{Request}
+use Rattle.rapid_model.specs.declared.request.Request.TheVariants.{Rise, Setpoint}
 use Rattle.history_pages.specs.Packing.{event_in, event_of}
 use Rattle.history_pages.specs.Paged.{PagedData}
 use Rattle.history_pages.specs.declared.head.Head.{Head}
@@ -15,6 +18,14 @@ pub record PagesData : Type 0 where
 
 abbrev pub with_event : PagesData → Event → PagesData
 with_event pages e = record { events = pages.events ++ e ∷ []; room = pages.room }
+
+-- the actor and the joints of a setpoint that was given
+abbrev pub given_to : ℕ → Request → Answer → Option (ℕ × Joints)
+given_to actor (Setpoint to) Given = Some (actor, to)
+given_to actor _ _ = None
+
+abbrev pub given_in : Event → Option (ℕ × Joints)
+given_in e = given_to e.actor e.request e.answer
 
 -- the events of heads, if each has one
 abbrev pub events_in : List Head → List ℤ → List Event

@@ -1,7 +1,8 @@
-ghost use Rattle.std.specs.Prelude.{◌≡◌, Some, is_some, IsTrue};
+ghost use Rattle.std.specs.Prelude.{◌≡◌, Some, is_some, IfSome, IsTrue};
 ghost use Rattle.rapid_model.specs.declared.answer.Answer.TheVariants as answers;
 ghost use Rattle.rapid_model.specs.declared.request.Request.TheVariants as requests;
 ghost use Rattle.history_pages.specs.Packing.{event_of};
+ghost use Rattle.history_pages.specs.Pages.{given_in};
 
 use crate::answer_form::AnswerForm;
 use crate::request_form::RequestForm;
@@ -36,6 +37,23 @@ impl Head {
                 given(self.actor, Joints { axis })
             }
             _ => self.event(words).unwrap(),
+        }
+    }
+
+    /// The actor and the joints of the event, which the words spell, if it is a setpoint that was given.
+    pub(crate) fn given(self, words: &Words) -> Option<(u32, Joints)>
+        requires { IsTrue (is_some (event_in words.now.items self)) }
+        ensures { IfSome (event_in words.now.items self) (λ event. result ≡ given_in event) }
+    {
+        match self.request {
+            RequestForm::Setpoint => match self.answer {
+                AnswerForm::Given => {
+                    let axis = nums_from(words, self.from as usize).unwrap();
+                    Some((self.actor, Joints { axis }))
+                }
+                _ => None,
+            },
+            _ => None,
         }
     }
 

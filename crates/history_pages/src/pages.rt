@@ -2,7 +2,7 @@ ghost use Rattle.std.specs.Prelude.{◌≡◌, ◌==◌, ◌<◌, ◌≤◌, [],
 ghost use Rattle.std.specs.Vec.{vec_capacity};
 ghost use Rattle.rapid_model.specs.declared.event.Event.{Event};
 ghost use Rattle.history_pages.specs.Packing.{event_of};
-ghost use Rattle.history_pages.specs.Pages.{with_event};
+ghost use Rattle.history_pages.specs.Pages.{given_in, with_event};
 ghost use Rattle.history_pages.specs.Replies.{is_reply_to};
 ghost use Rattle.history_pages.specs.Requests.{is_lined};
 
@@ -14,7 +14,7 @@ use crate::payload::put_words;
 use crate::request_form::RequestForm;
 use crate::words::Words;
 use rapid_model::{Answer, Event, Request};
-use rapid_num::Memory;
+use rapid_num::{Joints, Memory};
 use std::alloc::Global;
 use std::marker::Model;
 
@@ -104,6 +104,14 @@ impl Pages {
             request: RequestForm::of(request, answer),
             answer: AnswerForm::of(answer),
         });
+    }
+
+    /// The actor and the joints of event `k`, from 0, if it is a setpoint that was given. Makes no event.
+    pub fn given(&self, k: u32) -> Option<(u32, Joints)>
+        requires { k < length self.now.events }
+        ensures { (event : Event) → slice_get self.now.events k ≡ Some event → result ≡ given_in event }
+    {
+        self.heads.at(k as usize).given(&self.words)
     }
 
     /// Event `k`, from 0.

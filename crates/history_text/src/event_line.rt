@@ -49,8 +49,14 @@ fn write_text(
     line.push('\n');
 }
 
-/// The line of a setpoint that was given.
-fn write_setpoint(tasks: &[TaskRow], actor: u32, to: &Joints, line: &mut ArrayString<LINE_BYTES>)
+/// Writes the line of a setpoint that was given: `S TASK` and each axis of the task's arm in degrees with three decimals.
+/// Takes no memory.
+pub fn write_setpoint(
+    tasks: &[TaskRow],
+    actor: u32,
+    to: &Joints,
+    line: &mut ArrayString<LINE_BYTES>,
+)
     requires { line.old.bytes ≡ [] }
     ensures { line.new.bytes ≡ setpoint_line (task_name tasks.now actor) (task_axes tasks.now actor) to.now }
 {

@@ -38,7 +38,7 @@ mod whole_line;
 mod words;
 
 pub use answers::answer_words;
-pub use event_line::write_event;
+pub use event_line::{write_event, write_setpoint};
 pub use fate_line::write_fate;
 pub use history_fault::HistoryFault;
 pub use laws::{first_fault_is_one, history_is_one};

@@ -2,7 +2,6 @@
 use Rattle.std.proofs.Common.{ap, subst, [], Option}
 use Rattle.std.specs.Option.{unwrap_or}
 use Rattle.rapid_model.specs.declared.request.Request.{Request}
-use Rattle.rapid_model.specs.declared.request.Request.TheVariants.{Look}
 use Rattle.rapid_meaning.specs.Answering.{Outcome, performed}
 use Rattle.rapid_meaning.specs.Data.{Data}
 use Rattle.rapid_meaning.specs.Doings.{Doing}

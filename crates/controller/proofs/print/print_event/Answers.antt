@@ -1,11 +1,19 @@
-use Rattle.std.proofs.Common.{sym}
+use Rattle.std.proofs.Common.{ℕ, List, [], ◌∷◌, sym, subst}
 use Rattle.std.proofs.lemmas.Bool.{false≢true}
-use Rattle.controller.proofs.Printing.{line_skipped, unlined, without_line}
+use Rattle.controller.specs.Printed.{sunk}
+use Rattle.controller.specs.Written.{Writes}
+use Rattle.controller.proofs.Printing.{given_line, line_skipped, unlined, without_line}
 use Rattle.controller.proofs.print.print_event.Goals as goal
 
 pub returns-then-not-is_lined : goal.returns-then-not-is_lined
 returns-then-not-is_lined g c = λ e at.
     line_skipped c.args.full c.args.core.now.cell.tasks e _ c.if-not-full.true (unlined c.args.core.now.cell.tasks e (sym (c.if-not-is_lined.ensures e at)))
+
+pub returns-in-Some : goal.returns-in-Some
+returns-in-Some g c = λ e at.
+    subst (λ (line : List ℕ). Writes (line ∷ []) c.print_setpoint.result (sunk g.O.Sink.told g.O.Sink.calls g.O.Sink.faults c.args.out.now c.print_setpoint.new.out))
+    (given_line c.args.full c.args.core.now.cell.tasks e c.in-Some.actor c.in-Some.to c.if-not-full.true (c.in-Some.ensures e at))
+    c.print_setpoint.ensures
 
 pub returns-then-not-has_line : goal.returns-then-not-has_line
 returns-then-not-has_line g c = λ e at.

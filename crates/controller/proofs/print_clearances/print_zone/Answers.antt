@@ -1,4 +1,4 @@
-use Rattle.std.proofs.Common.{◌≡◌, ◌<◌, ◌≤◌, ◌+◌, length, sym, ◌∙◌, arith}
+use Rattle.std.proofs.Common.{◌<◌, ◌≤◌, length, arith}
 use Rattle.controller.proofs.ArmPositions.{zone_arm, zone_in_reach, zone_names}
 use Rattle.controller.proofs.Walking.{begins, same_start, some_small, some_start, starts_well, to_well, walked_past, walked_to, zone_ends, zone_stays}
 use Rattle.controller.proofs.print_clearances.print_zone.Goals as goal

@@ -7,28 +7,28 @@ use Rattle.controller.proofs.Exits.{all_asked, all_read, module_refused, parsed_
 use Rattle.controller.proofs.Gains.{gained_none}
 use Rattle.controller.proofs.texts_cell.texts_cell.Goals as goal
 
-pub cell_of-requires-clause-spelled : goal.cell_of-requires-clause-spelled
-cell_of-requires-clause-spelled g c =
+pub cell_of-cell-requires-clause-spelled : goal.cell_of-cell-requires-clause-spelled
+cell_of-cell-requires-clause-spelled g c =
     texts_spell 1 (bytes_of c.args.texts.now) c.args.failed _
     (parsed_here c.args.texts.now c.in-Ok.trees.items c.as_slice.result.now c.args.failed c.as_slice.ensures.value c.in-Ok.ensures.parsed)
 
 pub returns-in-Ok-clause-refused : goal.returns-in-Ok-clause-refused
 returns-in-Ok-clause-refused g c =
     let parsed = parsed_here c.args.texts.now c.in-Ok.trees.items c.as_slice.result.now c.args.failed c.as_slice.ensures.value c.in-Ok.ensures.parsed in
-    IfErr-weaker c.cell_of.result _ _ (λ report answers. λ words told held given.
-    all_read words told _ _ _ c.args.script.now c.args.files.now _ c.args.failed _ report _ _ c.requires.named given parsed (answers given.given.gave held)) c.cell_of.ensures.refused
+    IfErr-weaker c.cell_of-cell.result _ _ (λ report answers. λ words told held given.
+    all_read words told _ _ _ c.args.script.now c.args.files.now _ c.args.failed _ report _ _ c.requires.named given parsed (answers given.given.gave held)) c.cell_of-cell.ensures.refused
 
 pub returns-in-Ok-clause-causes : goal.returns-in-Ok-clause-causes
-returns-in-Ok-clause-causes g c = IfErr-weaker c.cell_of.result _ _ (λ report causes. λ old new fault. causes old new) c.cell_of.ensures.causes
+returns-in-Ok-clause-causes g c = IfErr-weaker c.cell_of-cell.result _ _ (λ report causes. λ old new fault. causes old new) c.cell_of-cell.ensures.causes
 
 pub returns-in-Ok-clause-asked : goal.returns-in-Ok-clause-asked
 returns-in-Ok-clause-asked g c =
     let parsed = parsed_here c.args.texts.now c.in-Ok.trees.items c.as_slice.result.now c.args.failed c.as_slice.ensures.value c.in-Ok.ensures.parsed in
-    IfOk-weaker c.cell_of.result _ _ (λ accepted gives. λ words told given.
-    all_asked words told _ _ _ c.args.script.now c.args.files.now _ c.args.failed _ (made_of accepted) c.requires.named given parsed gives) c.cell_of.ensures.gives
+    IfOk-weaker c.cell_of-cell.result _ _ (λ accepted gives. λ words told given.
+    all_asked words told _ _ _ c.args.script.now c.args.files.now _ c.args.failed _ (made_of accepted) c.requires.named given parsed gives) c.cell_of-cell.ensures.gives
 
 pub returns-in-Ok-clause-whole : goal.returns-in-Ok-clause-whole
-returns-in-Ok-clause-whole g c = IfOk-weaker c.cell_of.result _ _ (λ accepted gives. c.in-Ok.ensures.whole) c.cell_of.ensures.gives
+returns-in-Ok-clause-whole g c = IfOk-weaker c.cell_of-cell.result _ _ (λ accepted gives. c.in-Ok.ensures.whole) c.cell_of-cell.ensures.gives
 
 pub returns-in-Err-clause-refused : goal.returns-in-Err-clause-refused
 returns-in-Err-clause-refused g c = λ words told held given.
