@@ -16,8 +16,9 @@ from .say import NO_PROGRAM, put_err, say
 Word = Union[str, bytes, Path]
 # How much of what the program says on standard error is kept.
 SAID = 65_536
-# A run takes room for all its events at once. In large pages, Linux hands that out in about a third of the time.
-LARGE_PAGES = {"GLIBC_TUNABLES": "glibc.malloc.hugetlb=1"}
+# A run takes room for all its events at once, and a check room for many small trees. In large pages, Linux hands that out
+# in about a third of the time. The heap grows by 8 MB at a time, since its last piece is in small pages.
+LARGE_PAGES = {"GLIBC_TUNABLES": "glibc.malloc.hugetlb=1:glibc.malloc.top_pad=8388608"}
 
 
 @dataclass(frozen=True)

@@ -113,7 +113,8 @@ def try_large_pages():
         built.write_text('#!/bin/sh\necho "$GLIBC_TUNABLES"\n')
         built.chmod(0o755)
         bare = {name: value for name, value in frame.environment("good").items() if name != "GLIBC_TUNABLES"}
-        for said, wanted in (({}, "glibc.malloc.hugetlb=1"), ({"GLIBC_TUNABLES": "glibc.malloc.check=0"}, "glibc.malloc.check=0")):
+        large = "glibc.malloc.hugetlb=1:glibc.malloc.top_pad=8388608"
+        for said, wanted in (({}, large), ({"GLIBC_TUNABLES": "glibc.malloc.check=0"}, "glibc.malloc.check=0")):
             for plain in ((), ("--plain",)):
                 words = [sys.executable, frame.top / "rapid_cell", *plain, "check", "a.toml"]
                 ran = subprocess.run(words, stdout=subprocess.PIPE, stderr=subprocess.PIPE, env={**bare, **said})
