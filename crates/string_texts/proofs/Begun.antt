@@ -4,16 +4,13 @@ use Rattle.rapid_model.specs.Printable.{takes}
 use Rattle.string_texts.specs.Spelled.{Spells, text_behind, text_in}
 use Rattle.string_texts.specs.Reading.{first_of}
 use Rattle.string_texts.proofs.Continuing.{Continues, nothing_more, one_more, goes, spells, after_quote, takes_it}
-use Rattle.string_texts.proofs.Behind.{continued_by, behind_nothing, from_nothing, goes_text, quote_last, too_long}
+use Rattle.string_texts.proofs.Behind.{continued_by, behind_nothing, goes_text, too_long}
 
 -- what continues the text so far is what all the bytes after the quote give
 pub record IsBegun (bytes left begun : List ℕ) : Type 0 where
   pub back : (t : List ℕ) → Continues left begun t → Continues bytes [] t
   pub on : (t : List ℕ) → Continues bytes [] t → Continues left begun t
   pub text : continued_by begun (text_behind left) ≡ text_in (34 ∷ bytes)
-
-pub begun_first : (bytes : List ℕ) → IsBegun bytes bytes []
-begun_first bytes = record { back = λ t h. h; on = λ t h. h; text = from_nothing (text_behind bytes) }
 
 -- one more character
 pub begun_more : (bytes left begun : List ℕ) (byte len : ℕ) → first_of left ≡ Some (byte, len) → takes 80 begun byte ≡ true → IsBegun bytes left begun
@@ -42,9 +39,6 @@ ended_spells bytes left begun last b =
 
 pub ended_only : (bytes left begun : List ℕ) → first_of left ≡ None → IsBegun bytes left begun → (t : List ℕ) → Spells (34 ∷ bytes) t → Some begun ≡ Some t
 ended_only bytes left begun none b t h = ap Some (sym (nothing_more left begun t none (b.on t (after_quote bytes t h))).1)
-
-pub ended_text : (bytes left begun : List ℕ) → left ≡ 34 ∷ [] → IsBegun bytes left begun → Some begun ≡ text_in (34 ∷ bytes)
-ended_text bytes left begun last b = quote_last begun ∙ ap (λ (l : List ℕ). continued_by begun (text_behind l)) (sym last) ∙ b.text
 
 -- neither a character nor the closing quote
 pub stopped_only : (bytes left begun : List ℕ) → first_of left ≡ None → (left ≡ 34 ∷ [] → ⊥) → IsBegun bytes left begun → (t : List ℕ) → Spells (34 ∷ bytes) t → ⊥

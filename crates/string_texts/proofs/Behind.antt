@@ -1,5 +1,5 @@
 -- What follows a quote, character by character.
-use Rattle.std.proofs.Common.{◌≡◌, ℕ, ◌+◌, ◌-◌, ◌*◌, ◌<◌, ◌≤◌, Bool, true, false, cond, eqb, nat_le, nat_lt, List, [], ◌∷◌, ◌++◌, length, drop, Option, Some, None, refl, sym, ap, ◌∙◌, append_assoc, append-nil, length-append, arith}
+use Rattle.std.proofs.Common.{◌≡◌, ℕ, ◌+◌, ◌-◌, ◌*◌, ◌<◌, ◌≤◌, Bool, true, false, cond, eqb, nat_le, nat_lt, List, [], ◌∷◌, ◌++◌, length, drop, Option, Some, None, refl, sym, ap, ◌∙◌, append_assoc, length-append, arith}
 use Rattle.std.proofs.lemmas.Bool.{eqb-true, and_parts}
 use Rattle.std.proofs.lemmas.Bool.Decides.{nat_tests}
 use Rattle.std.specs.Option.{option_map}
@@ -93,15 +93,6 @@ full begun byte None le = refl
 full begun byte (Some rest) le =
     let no : nat_le (length (byte ∷ rest)) (80 - length begun) ≡ false = grind (arith, nat_tests) in rw no refl
 
--- what continues the empty text
-pub from_nothing : (text : Option (List ℕ)) → continued_by [] text ≡ limited 80 text
-from_nothing None = refl
-from_nothing (Some text) = at (nat_le (length text) 80)
-  where
-    at : (room : Bool) → option_map (λ (more : List ℕ). [] ++ more) (cond room (Some text) None) ≡ cond room (Some text) None
-    at true = refl
-    at false = refl
-
 -- after a character that fits, the rest continues the text
 pub goes_text : (bytes begun : List ℕ) (byte len : ℕ) → first_of bytes ≡ Some (byte, len) → takes 80 begun byte ≡ true
     → continued_by (begun ++ byte ∷ []) (text_behind (drop len bytes)) ≡ continued_by begun (text_behind bytes)
@@ -121,9 +112,3 @@ too_long bytes begun byte len first refused =
         let yes = takes_it bytes begun byte len first less in
         absurd (let no : true ≡ false = sym yes ∙ refused in cc)
     at false e = grind (arith, nat_tests)
-
--- the closing quote comes first
-pub quote_last : (begun : List ℕ) → Some begun ≡ continued_by begun (text_behind (34 ∷ []))
-quote_last begun =
-    let room : nat_le 0 (80 - length begun) ≡ true = grind (arith, nat_tests) in
-    rw room (ap Some (sym (append-nil begun)))
