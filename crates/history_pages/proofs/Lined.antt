@@ -142,19 +142,10 @@ unasked : (actor : ℕ) (request : Request) (answer : Answer) → is_setpoint re
 unasked actor (requests.Setpoint to) answer is = absurd (true≢false is)
 unasked actor _ answer is = refl
 
-ungiven : (actor : ℕ) (request : Request) (answer : Answer) → is_given answer ≡ false → None ≡ given_to actor request answer
-ungiven actor (requests.Setpoint to) answers.Given is = absurd (true≢false is)
-ungiven actor (requests.Setpoint to) _ is = refl
-ungiven actor _ answer is = refl
-
 -- and that is known from the forms
 other_request : (form : RequestForm) → (form ≡ forms.Setpoint → ⊥) → is_setpoint_form form ≡ false
 other_request forms.Setpoint differs = absurd (differs refl)
 other_request _ differs = refl
-
-other_answer : (form : AnswerForm) → (form ≡ replies.Given → ⊥) → is_given_form form ≡ false
-other_answer replies.Given differs = absurd (differs refl)
-other_answer _ differs = refl
 
 each_read : (words : List ℤ) (head : Head) (P : Event → Type 0) → ((e : Event) → event_in words head ≡ Some e → P e) → (o : Option Event) → event_in words head ≡ o → IfSome o P
 each_read words head P each (Some e) is = each e is
@@ -165,8 +156,3 @@ unasked_in words head differs =
     let same : (e : Event) → event_in words head ≡ Some e → tags_form head.request ≡ tags e.request = λ e is. (read_from head (drop head.from words) e is).0 in
     each_read words head (λ e. None ≡ given_in e)
     (λ e is. unasked e.actor e.request e.answer (sym (ap (λ (t : Bool × Bool). t.1) (same e is)) ∙ other_request head.request differs)) (event_in words head) refl
-
-pub ungiven_in : (words : List ℤ) (head : Head) → (head.answer ≡ replies.Given → ⊥) → IfSome (event_in words head) (λ e. None ≡ given_in e)
-ungiven_in words head differs =
-    let same : (e : Event) → event_in words head ≡ Some e → is_given_form head.answer ≡ is_given e.answer = λ e is. (read_from head (drop head.from words) e is).1 in
-    each_read words head (λ e. None ≡ given_in e) (λ e is. ungiven e.actor e.request e.answer (sym (same e is) ∙ other_answer head.answer differs)) (event_in words head) refl
