@@ -6,7 +6,7 @@ use crate::rooms::{AXES_BYTES, LINE_BYTES};
 use arrayvec::ArrayString;
 use rapid_limits::MOST_AXES;
 use rapid_model::TaskRow;
-use rapid_num::{Joints, Num, write_fixed};
+use rapid_num::{Joints, Num, push_fixed};
 use value_text::NUM_BYTES;
 
 /// The number of axes of a task's arm, 0 without an arm.
@@ -45,8 +45,6 @@ fn push_number(number: Num, line: &mut ArrayString<LINE_BYTES>)
     ensures text { line.new.bytes ≡ line.old.bytes ++ 32 ∷ fixed_text number }
     ensures short { length line.new.bytes ≤ length line.old.bytes + NUM_BYTES + 1 }
 {
-    let mut text = ArrayString::new();
-    write_fixed(number, &mut text);
     line.push(' ');
-    line.push_str(text.as_str());
+    push_fixed(number, line);
 }

@@ -1,7 +1,7 @@
 //! Worked numbers: arithmetic, literals and texts.
 
 use arrayvec::ArrayString;
-use rapid_num::{BadLiteral, Num, read_literal, round_ratio, write_fixed, write_num};
+use rapid_num::{BadLiteral, Num, push_fixed, read_literal, round_ratio, write_num};
 
 fn shortest(count: i64) -> Option<ArrayString<24>> {
     let mut text = ArrayString::new();
@@ -11,7 +11,7 @@ fn shortest(count: i64) -> Option<ArrayString<24>> {
 
 fn fixed(count: i64) -> Option<ArrayString<24>> {
     let mut text = ArrayString::new();
-    write_fixed(Num::new(count)?, &mut text);
+    push_fixed(Num::new(count)?, &mut text);
     Some(text)
 }
 

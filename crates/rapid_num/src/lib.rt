@@ -21,7 +21,7 @@ pub use literal::{BadLiteral, read_literal};
 pub use num::Num;
 pub use round::round_ratio;
 pub use shape::{Bound, Shape};
-pub use write::{write_fixed, write_num};
+pub use write::{push_fixed, write_num};
 
 /// Out of memory. Whatever was lent to the call is unchanged.
 #[derive(Clone, Copy, Debug, PartialEq, Eq)]

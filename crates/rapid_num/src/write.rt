@@ -1,5 +1,5 @@
 //! Nums as decimal text.
-ghost use Rattle.std.specs.Prelude.{◌≡◌, ℕ, ◌+◌, ◌/◌, ◌%◌, ◌<◌, ◌≤◌, pos, nat_abs, [], ◌∷◌, ◌++◌, decimal, Some};
+ghost use Rattle.std.specs.Prelude.{◌≡◌, ℕ, ◌+◌, ◌/◌, ◌%◌, ◌<◌, ◌≤◌, pos, nat_abs, [], ◌∷◌, ◌++◌, drop, decimal, Some};
 ghost use Rattle.arrayvec.specs.ArrayString.{array_string_len};
 ghost use Rattle.rapid_num.specs.Literal.{literal_value};
 ghost use Rattle.rapid_num.specs.Range.{IsNum};
@@ -17,28 +17,28 @@ pub fn write_num(value: Num, text: &mut ArrayString<24>)
     // The text of a num without a sign can be read back.
     ensures reads_back { (n : ℕ) → value ≡ pos n → literal_value text.new.bytes ≡ Some value }
 {
-    let rest = write_whole(value, text);
-    write_fraction(rest, text);
+    let rest = push_whole(value, text);
+    push_fraction(rest, text);
 }
 
-/// The text with three decimals, as `5.000`: at most 15 bytes.
-pub fn write_fixed(value: Num, text: &mut ArrayString<24>)
-    requires empty { text.old.bytes ≡ [] }
-    ensures text { text.new.bytes ≡ fixed_text value }
-    ensures short { array_string_len text.new ≤ 15 }
-    // The text of a num without a sign can be read back.
-    ensures reads_back { (n : ℕ) → value ≡ pos n → literal_value text.new.bytes ≡ Some value }
+/// Appends the text with three decimals, as `5.000`: at most 15 bytes.
+pub fn push_fixed<const N: usize>(value: Num, text: &mut ArrayString<N>)
+    requires room { array_string_len text.old + 15 ≤ N }
+    ensures text { text.new.bytes ≡ text.old.bytes ++ fixed_text value }
+    ensures short { array_string_len text.new ≤ array_string_len text.old + 15 }
+    // What is appended for a num without a sign can be read back.
+    ensures reads_back { (n : ℕ) → value ≡ pos n → literal_value (drop (array_string_len text.old) text.new.bytes) ≡ Some value }
 {
-    let rest = write_whole(value, text);
+    let rest = push_whole(value, text);
     text.push('.');
-    write_three_digits(rest, text);
+    push_three_digits(rest, text);
 }
 
 /// A minus sign for a negative value.
-fn write_sign(value: Num, text: &mut ArrayString<24>)
-    requires empty { text.old.bytes ≡ [] }
-    ensures text { text.new.bytes ≡ sign_text value }
-    ensures short { array_string_len text.new ≤ 1 }
+fn push_sign<const N: usize>(value: Num, text: &mut ArrayString<N>)
+    requires room { array_string_len text.old < N }
+    ensures text { text.new.bytes ≡ text.old.bytes ++ sign_text value }
+    ensures short { array_string_len text.new ≤ array_string_len text.old + 1 }
 {
     if value.thousandths() < 0 {
         text.push('-');
@@ -46,14 +46,14 @@ fn write_sign(value: Num, text: &mut ArrayString<24>)
 }
 
 /// The sign and the integer part. Returns the thousandths below one.
-fn write_whole(value: Num, text: &mut ArrayString<24>) -> u64
-    requires empty { text.old.bytes ≡ [] }
-    ensures text { text.new.bytes ≡ sign_text value ++ decimal (nat_abs value / 1000) }
+fn push_whole<const N: usize>(value: Num, text: &mut ArrayString<N>) -> u64
+    requires room { array_string_len text.old + 11 ≤ N }
+    ensures text { text.new.bytes ≡ text.old.bytes ++ (sign_text value ++ decimal (nat_abs value / 1000)) }
     ensures rest { result ≡ nat_abs value % 1000 }
-    ensures short { array_string_len text.new ≤ 11 }
+    ensures short { array_string_len text.new ≤ array_string_len text.old + 11 }
     ensures range { IsNum value }
 {
-    write_sign(value, text);
+    push_sign(value, text);
     let size = value.thousandths().unsigned_abs();
     let mut buffer = Buffer::new();
     text.push_str(buffer.format(size / 1000));
@@ -61,29 +61,29 @@ fn write_whole(value: Num, text: &mut ArrayString<24>) -> u64
 }
 
 /// One decimal digit.
-fn write_digit(digit: u64, text: &mut ArrayString<24>)
+fn push_digit<const N: usize>(digit: u64, text: &mut ArrayString<N>)
     requires digit { digit < 10 }
-    requires room { array_string_len text.old < 24 }
+    requires room { array_string_len text.old < N }
     ensures { text.new.bytes ≡ text.old.bytes ++ (48 + digit) ∷ [] }
 {
     text.push(char::from(b'0' + digit as u8));
 }
 
 /// The digits for hundreds, tens and ones.
-fn write_three_digits(rest: u64, text: &mut ArrayString<24>)
+fn push_three_digits<const N: usize>(rest: u64, text: &mut ArrayString<N>)
     requires below_one { rest < 1000 }
-    requires room { array_string_len text.old ≤ 12 }
+    requires room { array_string_len text.old + 3 ≤ N }
     ensures { text.new.bytes ≡ text.old.bytes ++ three_digits rest }
 {
-    write_digit(rest / 100, text);
-    write_digit(rest / 10 % 10, text);
-    write_digit(rest % 10, text);
+    push_digit(rest / 100, text);
+    push_digit(rest / 10 % 10, text);
+    push_digit(rest % 10, text);
 }
 
 /// Thousandths below one: a decimal point and digits without trailing zeros.
-fn write_fraction(rest: u64, text: &mut ArrayString<24>)
+fn push_fraction<const N: usize>(rest: u64, text: &mut ArrayString<N>)
     requires below_one { rest < 1000 }
-    requires room { array_string_len text.old ≤ 11 }
+    requires room { array_string_len text.old + 4 ≤ N }
     ensures text { text.new.bytes ≡ text.old.bytes ++ fraction_text rest }
     ensures short { array_string_len text.new ≤ array_string_len text.old + 4 }
 {
@@ -92,11 +92,11 @@ fn write_fraction(rest: u64, text: &mut ArrayString<24>)
     }
     text.push('.');
     if rest % 100 == 0 {
-        write_digit(rest / 100, text);
+        push_digit(rest / 100, text);
     } else if rest % 10 == 0 {
-        write_digit(rest / 100, text);
-        write_digit(rest / 10 % 10, text);
+        push_digit(rest / 100, text);
+        push_digit(rest / 10 % 10, text);
     } else {
-        write_three_digits(rest, text);
+        push_three_digits(rest, text);
     }
 }
