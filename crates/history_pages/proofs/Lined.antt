@@ -1,4 +1,4 @@
--- Whether a request can have a line, and whether an event is a setpoint that was given, is known from the forms.
+-- Whether a request can have a line, and whether it asks for a setpoint, is known from the forms.
 use Rattle.std.proofs.Common.{◌≡◌, ℕ, Bool, true, false, ℤ, List, drop, slice_get, Option, None, Some, option_map, refl, sym, ap, ◌∙◌}
 use Rattle.std.proofs.lemmas.Bool.{true≢false}
 use Rattle.std.proofs.lemmas.Option.{none-some, same_Some}
@@ -7,7 +7,6 @@ use Rattle.std.specs.Option.{option_and_then}
 use Rattle.std.specs.Prelude.{is_some, IfSome}
 use Rattle.rapid_limits.specs.declared.TheConstants.{MOST_AXES}
 use Rattle.rapid_model.specs.declared.answer.Answer.{Answer}
-use Rattle.rapid_model.specs.declared.answer.Answer.TheVariants as answers
 use Rattle.rapid_model.specs.declared.event.Event.{Event}
 use Rattle.rapid_model.specs.declared.request.Request.{Request}
 use Rattle.rapid_model.specs.declared.request.Request.TheVariants as requests
@@ -17,8 +16,6 @@ use Rattle.history_pages.specs.Pages.{events_in, given_in, given_to}
 use Rattle.history_pages.specs.Requests.{is_lined, is_lined_form, request_in}
 use Rattle.history_pages.specs.Values.{joints_of, tail_count, tail_in, value_in}
 use Rattle.history_pages.specs.Words.{nums_in, shape_in, text_in}
-use Rattle.history_pages.specs.declared.answer_form.AnswerForm.{AnswerForm}
-use Rattle.history_pages.specs.declared.answer_form.AnswerForm.TheVariants as replies
 use Rattle.history_pages.specs.declared.head.Head.{Head}
 use Rattle.history_pages.specs.declared.request_form.RequestForm.{RequestForm}
 use Rattle.history_pages.specs.declared.request_form.RequestForm.TheVariants as forms
@@ -82,60 +79,20 @@ tags_in forms.Rise words request is = ap tags (same_Some _ request is)
 tags_in (forms.Input index) words request is = ap tags (same_Some _ request is)
 tags_in (forms.End fate) words request is = ap tags (same_Some _ request is)
 
--- whether an answer is that of a setpoint that was given
-abbrev is_given : Answer → Bool
-is_given answers.Given = true
-is_given _ = false
+-- what is read from a head and words has the request that is read
+request_read : (actor : ℕ) (o : Option Request) (p : Option Answer) (e : Event) → option_and_then (λ request. option_map (event_of actor request) p) o ≡ Some e → o ≡ Some e.request
+request_read actor (Some request) (Some answer) e is = ap (λ (x : Event). Some x.request) (same_Some (event_of actor request answer) e is)
+request_read actor (Some request) None e is = absurd (none-some e is)
+request_read actor None p e is = absurd (none-some e is)
 
-abbrev is_given_form : AnswerForm → Bool
-is_given_form replies.Given = true
-is_given_form _ = false
-
--- an answer that is made of what is read, if something is
-answered : {A : Type 0} (f : A → Answer) → ((x : A) → false ≡ is_given (f x)) → (o : Option A) (answer : Answer) → option_map f o ≡ Some answer → false ≡ is_given answer
-answered f each (Some x) answer is = each x ∙ ap is_given (same_Some (f x) answer is)
-answered f each None answer is = absurd (none-some answer is)
-
-given_answer : (form : AnswerForm) (told : ℕ) (words : List ℤ) (answer : Answer) → answer_in form told words ≡ Some answer → is_given_form form ≡ is_given answer
-given_answer replies.Ok told words answer is = ap is_given (same_Some _ answer is)
-given_answer replies.Go told words answer is = ap is_given (same_Some _ answer is)
-given_answer (replies.Trap number) told words answer is = ap is_given (same_Some _ answer is)
-given_answer replies.Flood told words answer is = ap is_given (same_Some _ answer is)
-given_answer (replies.Val form) told words answer is = answered answers.Val (λ value. refl) (value_in form words) answer is
-given_answer (replies.Yes met) told words answer is = ap is_given (same_Some _ answer is)
-given_answer (replies.Bit bit) told words answer is = ap is_given (same_Some _ answer is)
-given_answer replies.At told words answer is = answered (λ axes. answers.At (joints_of axes)) (λ axes. refl) (nums_in MOST_AXES words) answer is
-given_answer replies.Given told words answer is = ap is_given (same_Some _ answer is)
-given_answer (replies.Stopped zone) told words answer is = ap is_given (same_Some _ answer is)
-given_answer (replies.Number number) told words answer is = ap is_given (same_Some _ answer is)
-given_answer replies.Already told words answer is = ap is_given (same_Some _ answer is)
-given_answer replies.Unknown told words answer is = ap is_given (same_Some _ answer is)
-given_answer replies.NoMore told words answer is = ap is_given (same_Some _ answer is)
-given_answer replies.ZoneUsed told words answer is = ap is_given (same_Some _ answer is)
-given_answer replies.ZoneFull told words answer is = ap is_given (same_Some _ answer is)
-given_answer replies.NoZone told words answer is = ap is_given (same_Some _ answer is)
-given_answer replies.Tied told words answer is = ap is_given (same_Some _ answer is)
-given_answer replies.Met told words answer is = ap is_given (same_Some _ answer is)
-given_answer replies.Apart told words answer is = ap is_given (same_Some _ answer is)
-
--- what is read from a head and words has the request and the answer that are read
-parts_read : (actor : ℕ) (o : Option Request) (p : Option Answer) (e : Event) → option_and_then (λ request. option_map (event_of actor request) p) o ≡ Some e
-    → (o ≡ Some e.request) × (p ≡ Some e.answer)
-parts_read actor (Some request) (Some answer) e is =
-    let same : event_of actor request answer ≡ e = same_Some (event_of actor request answer) e is in
-    (ap (λ (x : Event). Some x.request) same, ap (λ (x : Event). Some x.answer) same)
-parts_read actor (Some request) None e is = absurd (none-some e is)
-parts_read actor None p e is = absurd (none-some e is)
-
-read_from : (head : Head) (words : List ℤ) (e : Event) → event_from head words ≡ Some e → (tags_form head.request ≡ tags e.request) × (is_given_form head.answer ≡ is_given e.answer)
-read_from head words e is =
-    let parts = parts_read head.actor (request_in head.request words) (answer_in head.answer (told_in head.request) words) e is in
-    (tags_in head.request words e.request parts.0, given_answer head.answer (told_in head.request) words e.answer parts.1)
+tags_read : (head : Head) (words : List ℤ) (e : Event) → event_from head words ≡ Some e → tags_form head.request ≡ tags e.request
+tags_read head words e is =
+    tags_in head.request words e.request (request_read head.actor (request_in head.request words) (answer_in head.answer (told_in head.request) words) e is)
 
 pub lined_at : (heads : List Head) (words : List ℤ) (k : ℕ) (head : Head) (e : Event) → slice_get heads k ≡ Some head → list_all (λ h. is_some (event_in words h)) heads ≡ true
     → slice_get (events_in heads words) k ≡ Some e → is_lined_form head.request ≡ is_lined e.request
 lined_at heads words k head e at there is =
-    ap (λ (t : Bool × Bool). t.0) (read_from head (drop head.from words) e (event_at heads words k head at there ∙ is)).0
+    ap (λ (t : Bool × Bool). t.0) (tags_read head (drop head.from words) e (event_at heads words k head at there ∙ is))
 
 -- an event is no setpoint that was given if its request asks for none, or its answer gives none
 unasked : (actor : ℕ) (request : Request) (answer : Answer) → is_setpoint request ≡ false → None ≡ given_to actor request answer
@@ -153,6 +110,6 @@ each_read words head P each None is = tt
 
 pub unasked_in : (words : List ℤ) (head : Head) → (head.request ≡ forms.Setpoint → ⊥) → IfSome (event_in words head) (λ e. None ≡ given_in e)
 unasked_in words head differs =
-    let same : (e : Event) → event_in words head ≡ Some e → tags_form head.request ≡ tags e.request = λ e is. (read_from head (drop head.from words) e is).0 in
+    let same : (e : Event) → event_in words head ≡ Some e → tags_form head.request ≡ tags e.request = λ e is. tags_read head (drop head.from words) e is in
     each_read words head (λ e. None ≡ given_in e)
     (λ e is. unasked e.actor e.request e.answer (sym (ap (λ (t : Bool × Bool). t.1) (same e is)) ∙ other_request head.request differs)) (event_in words head) refl
