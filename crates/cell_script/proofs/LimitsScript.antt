@@ -1,7 +1,7 @@
 -- A script that is read is within its limits.
 use Rattle.std.proofs.Common.{◌≡◌, ℕ, ◌≤◌, Bool, true, false, nat_le, List, [], length, map, codes, Option, Ok, Err, ◌==◌, if◌then◌else◌, refl, arith}
 use Rattle.std.proofs.lemmas.Bool.{and_parts, leb-true}
-use Rattle.rapid_limits.specs.declared.TheConstants.{DEFAULT_STEPS}
+use Rattle.rapid_limits.specs.declared.TheConstants.{DEFAULT_STEPS, NEWEST_VERSION}
 use Rattle.toml.specs.Data.{Data}
 use Rattle.rapid_model.specs.Limits.{is_within, is_signal, is_zone, is_input}
 use Rattle.rapid_model.specs.Names.{differ}
@@ -85,7 +85,7 @@ tasks_differ version keys tasks e =
     (Keeps-any Q (needed keys (codes "task")) (rows_in key 1 most (task_of version)) (λ d. rows_differ (λ task. task.name) key 1 most (task_of version) d (task_is_new version)))) e
 
 pub IsScript-from : (keys : Keys) (version steps : ℕ) (signals : List SignalRow) (tasks : List ScriptTask) (pers : List PersValue) (zones : List ZoneRow) (inputs : List InputRow)
-    → needed_whole keys (codes "version") 1 2 ≡ Ok version
+    → needed_whole keys (codes "version") 1 NEWEST_VERSION ≡ Ok version
     → optional DEFAULT_STEPS (whole_at (at keys (codes "steps")) 1 1_000_000) (value_of keys (codes "steps")) ≡ Ok steps
     → optional [] (rows_in (at keys (codes "signal")) 0 256 signal_of) (value_of keys (codes "signal")) ≡ Ok signals
     → needed_rows keys (codes "task") 1 (most_tasks version) (task_of version) ≡ Ok tasks
@@ -94,7 +94,7 @@ pub IsScript-from : (keys : Keys) (version steps : ℕ) (signals : List SignalRo
     → optional [] (rows_in (at keys (codes "input")) 0 10_000 (input_of signals tasks)) (value_of keys (codes "input")) ≡ Ok inputs
     → IsScript (record { version = version; steps = steps; signals = signals; tasks = tasks; pers = pers; zones = zones; inputs = inputs })
 IsScript-from keys version steps signals tasks pers zones inputs s0 s1 s2 s3 s4 s5 s6 =
-    let one_or_two = kept (λ n. is_within 1 2 n ≡ true) _ version (Keeps-any (λ n. is_within 1 2 n ≡ true) (needed keys (codes "version")) _ (λ d. whole_keeps (at keys (codes "version")) 1 2 d)) s0 in
+    let one_or_two = kept (λ n. is_within 1 NEWEST_VERSION n ≡ true) _ version (Keeps-any (λ n. is_within 1 NEWEST_VERSION n ≡ true) (needed keys (codes "version")) _ (λ d. whole_keeps (at keys (codes "version")) 1 NEWEST_VERSION d)) s0 in
     let S : ℕ → Type 0 = λ n. is_within 1 1_000_000 n ≡ true in
     let within = kept S _ steps (Keeps-optional S DEFAULT_STEPS (whole_at (at keys (codes "steps")) 1 1_000_000) (value_of keys (codes "steps")) refl (λ d. whole_keeps (at keys (codes "steps")) 1 1_000_000 d)) s1 in
     let parts = and_parts (nat_le 1 steps) (nat_le steps 1_000_000) within in

@@ -58,7 +58,7 @@ files_at key d = do
   must (is_within 1 MOST_MODULES (length files) && list_all is_file_name files) (at_key key Range)
   Ok files
 
--- an angle in reach for each axis of an arm, in thousandths of a degree: six axes, and in version 2 up to six external ones
+-- an angle in reach for each axis of an arm, in thousandths of a degree: six axes, and from version 2 on up to six external ones
 abbrev pub is_arm : ℕ → List ℤ → Bool
 is_arm version angles = is_within ROBOT_AXES MOST_AXES (length angles) && takes_axes version (length angles) && are_in_reach 0 angles
 

@@ -1,7 +1,7 @@
 -- What the text of a cell script means.
 use Rattle.std.specs.Prelude.{◌≡◌, ◌⊎◌, ℕ, List, [], ◌∷◌, codes, Some, None, Ok, Err}
 use Rattle.std.specs.Str.{IsUtf8}
-use Rattle.rapid_limits.specs.declared.TheConstants.{DEFAULT_STEPS, MOST_CELL_ZONES, MOST_INPUTS, MOST_PERS_VALUES, MOST_SIGNALS, MOST_STEPS}
+use Rattle.rapid_limits.specs.declared.TheConstants.{DEFAULT_STEPS, MOST_CELL_ZONES, MOST_INPUTS, MOST_PERS_VALUES, MOST_SIGNALS, MOST_STEPS, NEWEST_VERSION}
 use Rattle.toml.specs.Data.{Members}
 use Rattle.toml.specs.Parse.{parse_document}
 use Rattle.rapid_model.specs.ScriptData.{ScriptData, most_tasks}
@@ -16,7 +16,7 @@ use Rattle.cell_script.specs.Rows.{signal_of, task_of, pers_of, zone_of, input_o
 -- the script that a table spells, or the first rule that it breaks, in the order of its keys
 unfoldable pub script_of_keys : Keys → Read ScriptData
 script_of_keys keys = do
-  version ← needed keys (codes "version") >>= whole_at (codes "version") 1 2
+  version ← needed keys (codes "version") >>= whole_at (codes "version") 1 NEWEST_VERSION
   steps ← optional DEFAULT_STEPS (whole_at (codes "steps") 1 MOST_STEPS) (value_of keys (codes "steps"))
   signals ← optional [] (λ d. rows_at (codes "signal") 0 MOST_SIGNALS d >>= each_row signal_of []) (value_of keys (codes "signal"))
   tasks ← needed keys (codes "task") >>= rows_at (codes "task") 1 (most_tasks version) >>= each_row (task_of version) []

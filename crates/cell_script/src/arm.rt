@@ -38,7 +38,7 @@ pub(crate) fn arm_in(
     }
 }
 
-/// An angle in reach for each axis of an arm: six axes, and in version 2 up to six external ones.
+/// An angle in reach for each axis of an arm: six axes, and from version 2 on up to six external ones.
 fn arm_at(
     alloc: Global,
     keys: &TableKeys<'_>,
@@ -74,7 +74,7 @@ fn arm_from(version: u32, angles: &[Num]) -> Option<Arm>
     })
 }
 
-/// Whether an arm may have that many axes in this version. External axes require version 2.
+/// Whether an arm may have that many axes in this version. External axes require version 2 or later.
 fn takes_axes(version: u32, axes: usize) -> bool
     ensures { result ≡ takes_axes version axes }
 {

@@ -18,13 +18,13 @@ use crate::plain::whole_at;
 use crate::signal::signals_in;
 use crate::task::tasks_in;
 use crate::zone::zones_in;
-use rapid_limits::{DEFAULT_STEPS, MOST_STEPS};
+use rapid_limits::{DEFAULT_STEPS, MOST_STEPS, NEWEST_VERSION};
 use rapid_model::{Script, ScriptRule, Sequence, Text};
 use std::alloc::Global;
 use toml::Table;
 
 /// The script that a text spells, or the first rule that it breaks, with its key. Keys are checked in the order of
-/// their row; the script's own are `version` (1 or 2), `steps` (1 to 1000000, by default 100000), `signal`, `task`,
+/// their row; the script's own are `version` (1 to 3), `steps` (1 to 1000000, by default 100000), `signal`, `task`,
 /// `pers`, `zone` and `input`. Each element is checked with all its keys before the next; an unknown key is reported
 /// last.
 pub fn read_script(alloc: Global, text: &[u8]) -> Result<Script, ScriptFault>
@@ -84,12 +84,12 @@ fn read_table(alloc: Global, table: &Table) -> Result<Script, ScriptFault>
     )
 }
 
-/// The version of the format: 1, or 2, which has external axes and more tasks.
+/// The version of the format: 1; 2, which has external axes and more tasks; or 3, which so far allows what 2 allows.
 fn version_of(keys: &TableKeys<'_>) -> Result<u32, ScriptFault>
-    ensures { Gives (λ version. version) result (needed_whole (view_keys keys.now) (codes "version") 1 2) }
+    ensures { Gives (λ version. version) result (needed_whole (view_keys keys.now) (codes "version") 1 NEWEST_VERSION) }
 {
     let value = keys.needed("version")?;
-    whole_at(keys, "version", 1, 2, value)
+    whole_at(keys, "version", 1, NEWEST_VERSION, value)
 }
 
 /// The greatest number of counted events.

@@ -1,6 +1,6 @@
 -- The tasks of a cell of a script have names, and no two have the same one.
 use Rattle.std.proofs.Common.{◌≡◌, ℕ, List, [], ◌∷◌, codes, map, Option, Some, None, Result, Ok, Err, refl, sym, subst}
-use Rattle.rapid_limits.specs.declared.TheConstants.{DEFAULT_STEPS, MOST_CELL_ZONES, MOST_INPUTS, MOST_PERS_VALUES, MOST_SIGNALS, MOST_STEPS}
+use Rattle.rapid_limits.specs.declared.TheConstants.{DEFAULT_STEPS, MOST_CELL_ZONES, MOST_INPUTS, MOST_PERS_VALUES, MOST_SIGNALS, MOST_STEPS, NEWEST_VERSION}
 use Rattle.toml.specs.Data.{Members}
 use Rattle.rapid_model.specs.CellData.{CellData}
 use Rattle.rapid_model.specs.ScriptData.{IsScript, ScriptData, most_tasks, row_of}
@@ -41,7 +41,7 @@ only_known keys known read script e = kept (λ (s : ScriptData). read ≡ s) (on
 within_limits : (members : Members) (script : ScriptData) → script_of members ≡ Ok script → IsScript script
 unfolding script_of_keys
 within_limits members script e =
-    behind P script (needed keys (codes "version") >>= whole_at (codes "version") 1 2) _ e (λ version is_version e1.
+    behind P script (needed keys (codes "version") >>= whole_at (codes "version") 1 NEWEST_VERSION) _ e (λ version is_version e1.
     behind P script (optional DEFAULT_STEPS (whole_at (codes "steps") 1 MOST_STEPS) (value_of keys (codes "steps"))) _ e1 (λ steps are_steps e2.
     behind P script (optional [] (λ d. rows_at (codes "signal") 0 MOST_SIGNALS d >>= each_row signal_of []) (value_of keys (codes "signal"))) _ e2 (λ signals are_signals e3.
     behind P script (needed keys (codes "task") >>= rows_at (codes "task") 1 (most_tasks version) >>= each_row (task_of version) []) _ e3 (λ tasks are_tasks e4.

@@ -88,5 +88,8 @@ pub const MOST_PERS_VALUES: usize = 1_000;
 /// The maximum number of steps of a run, and the maximum count in the gate of an input.
 pub const MOST_STEPS: u32 = 1_000_000;
 
+/// The newest version of a script. Version 2 has external axes and more tasks.
+pub const NEWEST_VERSION: u32 = 3;
+
 /// The number of steps of a run if the script gives none.
 pub const DEFAULT_STEPS: u32 = 100_000;

@@ -1,7 +1,7 @@
 -- How contracts see a cell script.
 use Rattle.std.specs.Prelude.{ℕ, ◌≤◌, Bool, true, false, ◌&&◌, ◌||◌, ◌==◌, nat_le, nat_lt, if◌then◌else◌, IsTrue, List, [], ◌∷◌, ◌++◌, length, map}
 use Rattle.std.specs.List.{list_all}
-use Rattle.rapid_limits.specs.declared.TheConstants.{LONGEST_ARRAY, LONGEST_FILE_NAME, MOST_CELL_ZONES, MOST_INPUTS, MOST_MODULES, MOST_PERS_VALUES, MOST_SIGNALS, MOST_STEPS, MOST_TASKS, MOST_TASKS_AT_FIRST, ROBOT_AXES}
+use Rattle.rapid_limits.specs.declared.TheConstants.{LONGEST_ARRAY, LONGEST_FILE_NAME, MOST_CELL_ZONES, MOST_INPUTS, MOST_MODULES, MOST_PERS_VALUES, MOST_SIGNALS, MOST_STEPS, MOST_TASKS, MOST_TASKS_AT_FIRST, NEWEST_VERSION, ROBOT_AXES}
 use Rattle.rapid_model.specs.declared.input_row.InputRow.{InputRow}
 use Rattle.rapid_model.specs.declared.pers_value.PersValue.{PersValue}
 use Rattle.rapid_model.specs.declared.script_task.ScriptTask.{ScriptTask}
@@ -30,7 +30,7 @@ is_file_name name = is_within 1 LONGEST_FILE_NAME (length name)
 abbrev pub most_tasks : ℕ → ℕ
 most_tasks version = if version == 1 then MOST_TASKS_AT_FIRST else MOST_TASKS
 
--- external axes require version 2
+-- external axes require version 2 or later
 abbrev pub takes_axes : ℕ → ℕ → Bool
 takes_axes version axes = nat_lt 1 version || nat_le axes ROBOT_AXES
 
@@ -55,7 +55,7 @@ is_pers_value row = is_short_name row.name && holds_where_there (is_within 1 LON
 
 -- the limits that every script is within, by its version
 pub record IsScript (script : ScriptData) : Type 0 where
-  pub version : IsTrue (is_within 1 2 script.version)
+  pub version : IsTrue (is_within 1 NEWEST_VERSION script.version)
   pub some_steps : 1 ≤ script.steps
   pub few_steps : script.steps ≤ MOST_STEPS
   pub few_signals : length script.signals ≤ MOST_SIGNALS

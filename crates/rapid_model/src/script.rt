@@ -33,7 +33,7 @@ impl Model for Script {
 impl Script {
     ghost use Rattle.rapid_model.specs.ScriptData.{IsScript};
 
-    /// The version of the script's keys: 1 or 2.
+    /// The version of the script's keys: 1 to 3.
     pub fn version(&self) -> u32
         ensures { result ≡ self.now.version }
     {

@@ -5,7 +5,7 @@ use Rattle.std.specs.Ordering.{is_eq, nat_cmp}
 use Rattle.std.specs.Cmp.Lexicographic.{slice_cmp}
 use Rattle.std.proofs.lemmas.Bool.{and_parts, and_from, leb-true, le-leb}
 use Rattle.toml.specs.Data.{Data, integer, Members, as_array, as_integer, get_member}
-use Rattle.rapid_limits.specs.declared.TheConstants.{DEFAULT_STEPS}
+use Rattle.rapid_limits.specs.declared.TheConstants.{DEFAULT_STEPS, NEWEST_VERSION}
 use Rattle.rapid_num.specs.Reach.{are_in_reach}
 use Rattle.rapid_model.specs.Limits.{is_within}
 use Rattle.rapid_model.specs.ScriptData.{ScriptData, most_tasks, takes_axes}
@@ -114,7 +114,7 @@ record Parts (members : Members) (version steps : ℕ) (signals : List SignalRow
 
 -- these parts, and the version, spell the script
 spelled : (members : Members) (version steps : ℕ) (signals : List SignalRow) (tasks : List ScriptTask) (pers : List PersValue) (zones : List ZoneRow) (inputs : List InputRow)
-    → (needed (keys_in members) (codes "version") >>= whole_at (codes "version") 1 2) ≡ Ok version → Parts members version steps signals tasks pers zones inputs
+    → (needed (keys_in members) (codes "version") >>= whole_at (codes "version") 1 NEWEST_VERSION) ≡ Ok version → Parts members version steps signals tasks pers zones inputs
     → script_of members ≡ Ok (record { version = version; steps = steps; signals = signals; tasks = tasks; pers = pers; zones = zones; inputs = inputs })
 unfolding script_of_keys
 spelled members version steps signals tasks pers zones inputs is parts =
@@ -149,7 +149,7 @@ spelled_by members version steps signals tasks pers zones inputs script parts sa
 parts_of : (members : Members) (script : ScriptData) → script_of members ≡ Ok script → Spelled members script
 unfolding script_of_keys
 parts_of members script is =
-    let version = behind (needed (keys_in members) (codes "version") >>= whole_at (codes "version") 1 2) _ script is in
+    let version = behind (needed (keys_in members) (codes "version") >>= whole_at (codes "version") 1 NEWEST_VERSION) _ script is in
     let steps = behind (optional DEFAULT_STEPS (whole_at (codes "steps") 1 1_000_000) (value_of (keys_in members) (codes "steps"))) _ script version.rest in
     let signals = behind (optional [] (λ d. rows_at (codes "signal") 0 256 d >>= each_row signal_of []) (value_of (keys_in members) (codes "signal"))) _ script steps.rest in
     let tasks = behind (needed (keys_in members) (codes "task") >>= rows_at (codes "task") 1 (most_tasks version.value) >>= each_row (task_of version.value) []) _ script signals.rest in
@@ -181,8 +181,8 @@ parts_more members version steps signals tasks pers zones inputs parts = record 
   none_unknown_is = put_known known (codes "version") (integer (pos 2)) members refl ∙ parts.none_unknown_is;
 }
 
-version_2 : (members : Members) → (needed (keys_in (with_version_2 members)) (codes "version") >>= whole_at (codes "version") 1 2) ≡ Ok 2
-version_2 members = ap (λ o. found_or o (at_key (codes "version") NoKey) >>= whole_at (codes "version") 1 2) (put_here (codes "version") (integer (pos 2)) members)
+version_2 : (members : Members) → (needed (keys_in (with_version_2 members)) (codes "version") >>= whole_at (codes "version") 1 NEWEST_VERSION) ≡ Ok 2
+version_2 members = ap (λ o. found_or o (at_key (codes "version") NoKey) >>= whole_at (codes "version") 1 NEWEST_VERSION) (put_here (codes "version") (integer (pos 2)) members)
 
 pub same_script : (members : Members) (script : ScriptData) → script_of members ≡ Ok script → script_of (with_version_2 members) ≡ Ok (record script { version = 2 })
 same_script members script is =
