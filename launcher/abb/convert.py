@@ -1,0 +1,124 @@
+"""The conversion of a task: its modules, each line at its old number, and the generated module."""
+from typing import List, Optional, Tuple
+
+from . import rules
+from .declarations import declared
+from .flow import ends
+from .guess import guess_signals
+from .job import Job
+from .library import Library
+from .model import Backup, Converted, Module, NotRead, Task
+from .names import Names, Text
+from .order import ordered
+from .parser import parse_text
+from .reading import Reading
+from .rendering import Rendering
+from .report import CHANGED, LEFT_OUT, NOT_KEPT, TO_DECIDE, Report
+from .routines import routine
+from .signals import values_of_passed, write_helpers
+from .tokens import decoded
+from .tree import Alias, Data, Number, Placeholder, Raise, Record, Routine
+from .walking import nodes_in
+
+GENERATED = "from_abb.sys"
+assert rules.FILES
+
+
+def read_texts(task: Task, report: Report) -> List[Text]:
+    """The modules of a task that can be read. NotRead for a text that is no RAPID."""
+    found = []
+    for module in task.modules:
+        if module.is_encrypted:
+            report.add(NOT_KEPT, task.name, module.name, 0, "an encrypted module: nothing of it is known")
+            continue
+        text = read_text(module)
+        if text is None:
+            report.add(LEFT_OUT, task.name, module.name, 0, "an empty file")
+        else:
+            found.append(text)
+    return found
+
+
+def read_text(module: Module) -> Optional[Text]:
+    characters, encoding = decoded(module.text)
+    try:
+        tree = parse_text(str(module.file), characters, encoding)
+    except RecursionError:
+        raise NotRead(str(module.file), 1, 1, "expected forms that are not so deep in one another") from None
+    return Text(module.name, tree, characters, encoding) if tree else None
+
+
+def convert(backup: Backup, task: Task, texts: List[Text], reading: Reading, report: Report) -> Converted:
+    names = Names(texts)
+    declared_names = [*names.shared, *(it for text in texts for it in text.own)]
+    job = Job(backup, task, names, reading, report, Library(task, declared_names))
+    job.raised = raised_numbers(texts)
+    guess_signals(job)
+    repeat_main(job)
+    renderings = [Rendering(job, text) for text in texts]
+    for at in renderings:
+        items(at)
+    finish(job, renderings)
+    return result(job, renderings)
+
+
+def raised_numbers(texts: List[Text]) -> set:
+    """The numbers that modules raise or declare for errors by themselves."""
+    found = set()
+    for text in texts:
+        for item in text.tree.items:
+            for node in nodes_in(item):
+                if isinstance(node, Raise) or (isinstance(node, Data) and node.type.lower() == "errnum"):
+                    if isinstance(node.value, Number) and node.value.text.isdigit():
+                        found.add(int(node.value.text))
+    return found
+
+
+def repeat_main(job: Job) -> None:
+    """The main of a background task that ends: a controller runs it again and again, so the generated module does."""
+    main = job.names.shared.get("main")
+    if job.is_converted or not job.task.is_background or not isinstance(main, Routine) or not ends(main):
+        return
+    job.repeated = main
+    text = job.names.homes["main"]
+    job.report.add(TO_DECIDE, job.task.name, text.name, text.line_of(main.start), "main is run again and again, as a background task does")
+
+
+def items(at: Rendering) -> None:
+    for item in at.text.tree.items:
+        if isinstance(item, Data):
+            declared(at, item)
+        elif isinstance(item, Routine):
+            routine(at, item)
+        elif isinstance(item, (Record, Alias)):
+            at.left_out(item, "its components are data of their own" if isinstance(item, Record) else "the type itself stands in its place")
+        elif isinstance(item, Placeholder):
+            at.left_out(item)
+
+
+def finish(job: Job, renderings: List[Rendering]) -> None:
+    """What the generated module gets when all modules are known."""
+    at = renderings[0] if renderings else None
+    if at and job.helpers:
+        write_helpers(job, values_of_passed(at))
+    if job.fires:
+        cases = [f"  CASE {n + 1}:\n    {it}" for n, it in enumerate(job.triggers)]
+        job.library.add("abb_trigger", "\n".join(["! What a trigger does.", "PROC abb_trigger(num trigger)", "  TEST trigger", *cases, "  ENDTEST", "ENDPROC"]))
+    if job.repeated is not None and at:
+        home = next(it for it in renderings if it.text is job.names.homes["main"])
+        name = job.free("main_cycle")
+        home.change(job.repeated.name_at, job.repeated.name_at + len("main"), name)
+        home.note(CHANGED, job.repeated, f"PROC main -> PROC {name}")
+        job.library.declared.discard("main")
+        text = f"! A background task runs its main again and again.\nPROC main()\n  WHILE TRUE DO\n    {name};\n  ENDWHILE\nENDPROC"
+        job.library.add("main", text)
+
+
+def result(job: Job, renderings: List[Rendering]) -> Converted:
+    modules: List[Tuple[str, bytes]] = []
+    for at in ordered(renderings):
+        modules.append((at.text.file, at.result().encode(at.text.encoding, "replace")))
+    if not job.is_converted:
+        first = [f"What the modules of {job.task.name} need and a cell does not have. {job.reading.title}."]
+        modules.insert(0, (GENERATED, job.library.text(first)))
+    return Converted(job.task, modules, sorted(job.used), list(job.added.values()))

@@ -1,0 +1,107 @@
+"""The conversion of declared data."""
+from typing import List, Tuple
+
+from . import types
+from .assignments import elements_of
+from .expressions import is_dropped, parts_of, quoted, render_as
+from .job import plain
+from .paths import sizes_of
+from .reading import POSITIONS
+from .rendering import Lost, Rendering, inner
+from .report import NOT_KEPT
+from .tree import Aggregate, Data
+
+Change = Tuple[int, int, str]
+
+
+def declared(at: Rendering, it: Data) -> None:
+    base = at.base(it.type)
+    if is_dropped(at, base) or base == types.WORK_OBJECT or base in types.SIGNALS:
+        at.left_out(it)
+        return
+    try:
+        new = of_record(at, it) if at.job.names.fields(at.text, base) is not None else of_value(at, it, base)
+    except Lost as lost:
+        at.note(NOT_KEPT, it, f"the value of {it.name}: {lost.why}")
+        new = without_value(at, it, base)
+    at.replaced(it, new)
+
+
+def of_value(at: Rendering, it: Data, base: str) -> str:
+    """A datum with its type, its length in one dimension and its value."""
+    changes: List[Change] = []
+    if it.scope == "TASK" and it.kind != "PERS":
+        changes.append((it.start, it.start + len("TASK"), ""))
+    kind = types.renamed(base)
+    changes.append((it.type_at, it.type_at + len(it.type), it.type if kind == it.type.lower() else kind))
+    changes.append((it.name_at, it.name_end, plain(it.name)))
+    if it.sizes:
+        changes.append((it.name_end, at.text.characters.index("}", it.sizes[-1].end) + 1, length_text(at, it)))
+    if it.value is not None:
+        changes.append((it.value.start, it.value.end, value_text(at, it, base)))
+    return at.put_in(it, changes).lstrip()
+
+
+def length_text(at: Rendering, it: Data) -> str:
+    if len(it.sizes) == 1:
+        return at.text.characters[it.name_end : it.sizes[0].start] + at.render(it.sizes[0]) + "}"
+    count = 1
+    for size in sizes_of(at, it):
+        count *= size
+    if not count:
+        at.lost(it, "lengths that are not known")
+    return f"{{{count}}}"
+
+
+def value_text(at: Rendering, it: Data, base: str) -> str:
+    assert it.value is not None
+    if base in POSITIONS:
+        return at.job.reading.declared(at, it)
+    if not it.sizes:
+        return render_as(at, it.value, base)
+    value = inner(it.value)
+    if not isinstance(value, Aggregate):
+        return at.render(value)
+    elements = elements_of(at, value, len(it.sizes))
+    changes = [(part.start, part.end, render_as(at, part, base)) for part in elements]
+    if len(it.sizes) == 1:
+        return at.put_in(value, changes)
+    return "[" + ",".join(text for _, _, text in changes) + "]"
+
+
+def of_record(at: Rendering, it: Data) -> str:
+    """A datum for each component of a record."""
+    leaves = at.job.names.leaves(at.text, it.type)
+    values = record_values(at, it) if it.value is not None else []
+    length = length_text(at, it).strip() if it.sizes else ""
+    scope = "LOCAL " if it.scope == "LOCAL" else "TASK " if it.scope == "TASK" and it.kind == "PERS" else ""
+    found = []
+    for number, (names, kind) in enumerate(leaves):
+        if is_dropped(at, kind):
+            continue
+        name = at.job.of_parts(it.name, *names)
+        value = f":={values[number]}" if values else ""
+        found.append(f"{scope}{it.kind} {types.renamed(kind)} {name}{length}{value};")
+    return " ".join(found)
+
+
+def record_values(at: Rendering, it: Data) -> List[str]:
+    """The value of each component, in brackets for an array."""
+    assert it.value is not None
+    value = inner(it.value)
+    if not it.sizes:
+        return parts_of(at, value, it.type)
+    if not isinstance(value, Aggregate):
+        return at.lost(value, "the value of an array that is not in brackets")
+    rows = [parts_of(at, part, it.type) for part in elements_of(at, value, len(it.sizes))]
+    return ["[" + ",".join(column) + "]" for column in zip(*rows)]
+
+
+def without_value(at: Rendering, it: Data, base: str) -> str:
+    """A datum whose value is not kept: a constant has the value that a variable starts with."""
+    kind = types.renamed(base)
+    value = {"num": "0", "bool": "FALSE", "string": quoted("")}.get(kind, "0")
+    length = "{1}" if it.sizes else ""
+    given = f":={f'[{value}]' if length else value}" if it.kind == "CONST" else ""
+    scope = "LOCAL " if it.scope == "LOCAL" else ""
+    return f"{scope}{it.kind} {kind} {plain(it.name)}{length}{given};"
