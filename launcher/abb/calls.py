@@ -90,7 +90,7 @@ def text_of(
     if slot.role == "part":
         return parts[slot.number]
     if slot.role == "signal":
-        from .signals import signal_number
+        from .signal_rules import signal_number
 
         return signal_number(at, value, types.SIGNALS[at.base(parameter.type)])
     return value_text(at, value, node, parameter)

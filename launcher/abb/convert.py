@@ -15,7 +15,7 @@ from .reading import Reading
 from .rendering import Rendering
 from .report import CHANGED, LEFT_OUT, NOT_KEPT, TO_DECIDE, Report
 from .routines import routine
-from .signals import values_of_passed, write_helpers
+from .signal_rules import values_of_passed, write_helpers
 from .tokens import decoded
 from .tree import Alias, Data, Number, Placeholder, Raise, Record, Routine
 from .walking import nodes_in

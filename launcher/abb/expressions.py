@@ -67,7 +67,7 @@ def name(at: Rendering, node: Name) -> str:
     if path is None:
         return undeclared(at, node)
     if path.type in types.SIGNALS:
-        from .signals import value_of_passed
+        from .signal_rules import value_of_passed
 
         return value_of_passed(at, node.name)
     if path.rest and path.type in POSITIONS:
@@ -94,7 +94,7 @@ def undeclared(at: Rendering, node: Name) -> str:
     """A name that no module declares: the variable of a FOR, a signal, or a predefined datum."""
     if at.is_counted(node.name) and not node.parts:
         return plain(node.name)
-    from .signals import signal_value
+    from .signal_rules import signal_value
 
     found = signal_value(at, node)
     if found is not None:

@@ -3,7 +3,7 @@ from .expressions import options_of
 from .instructions import INSTRUCTIONS, argument, kept, named
 from .rendering import Rendering, inner
 from .report import TO_DECIDE
-from .signals import passed_name
+from .signal_rules import passed_name
 from .tree import Instruct, Name
 
 EDGE = "edge"

@@ -5,7 +5,7 @@ from .expressions import options_of, render_as
 from .instructions import INSTRUCTIONS, argument
 from .rendering import Rendering, inner
 from .report import TO_DECIDE
-from .signals import group_setter, output
+from .signal_rules import group_setter, output
 from .together import before_move
 from .tree import Expression, Instruct, Name
 

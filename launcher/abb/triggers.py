@@ -5,7 +5,7 @@ from .expressions import options_of, values_of
 from .instructions import INSTRUCTIONS, argument
 from .moves import moves_to
 from .rendering import Rendering
-from .signals import group_setter
+from .signal_rules import group_setter
 from .together import before_move
 from .tree import Argument, Expression, Instruct, Name
 

@@ -5,7 +5,7 @@ from .expressions import options_of
 from .instructions import INSTRUCTIONS, argument, kept, named
 from .loops import is_polling
 from .rendering import Rendering, grouped
-from .signals import passed_name
+from .signal_rules import passed_name
 from .tree import Instruct
 
 # How the options of waits for groups and analog signals compare.
