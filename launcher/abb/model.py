@@ -41,13 +41,15 @@ class Module:
 class Task:
     """A task of SYS.cfg with its modules, those that all tasks load among them. `has_arm`: it is a motion task. `unit` is its robot or
     positioner; `external_axes` is how many external axes MOC.cfg gives it, or 0 where that is not told. `is_background`: a task without an
-    arm that is STATIC or SEMISTATIC, or any other task without one: the controller runs its `main` again and again."""
+    arm that is STATIC or SEMISTATIC, or any other task without one: the controller runs its `main` again and again. `entry` is the routine
+    with which it starts."""
 
     name: str
     modules: List[Module] = field(default_factory=list)
     has_arm: bool = True
     external_axes: int = 0
     kind: str = "NORMAL"
+    entry: str = "main"
 
     @property
     def is_background(self) -> bool:
@@ -59,6 +61,36 @@ class Task:
         return self.name[2:] if self.name[:2].upper() == "T_" and len(self.name) > 2 else self.name
 
 
+@dataclass(frozen=True)
+class Actor:
+    """A signal that a cross connection reads, inverted or not."""
+
+    signal: str
+    is_inverted: bool = False
+
+
+@dataclass(frozen=True)
+class Cross:
+    """A cross connection: its result, its actors, and the operators between them, AND or OR. `is_given`: it is of the file of --cross."""
+
+    result: str
+    actors: Tuple[Actor, ...]
+    operators: Tuple[str, ...]
+    file: str
+    line: int
+    is_given: bool = False
+
+
+@dataclass(frozen=True)
+class SystemUse:
+    """A signal that the system sets (`is_set`), or acts on, what for, and the line in EIO.cfg."""
+
+    signal: str
+    what: str
+    is_set: bool
+    line: int
+
+
 @dataclass
 class Backup:
     """What was read of a backup's folder. `signals` by their names in small letters."""
@@ -66,6 +98,8 @@ class Backup:
     folder: Path
     tasks: List[Task]
     signals: Dict[str, Signal]
+    crosses: List[Cross] = field(default_factory=list)
+    system: List[SystemUse] = field(default_factory=list)
 
 
 @dataclass(frozen=True)

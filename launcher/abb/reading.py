@@ -10,9 +10,10 @@ to 6 the angles about x, y, z in degrees (EulerZYX). A move adds the work object
 
 In the reading by joints a position is a row of joints.csv for each tool and work object that it is used with.
 """
-from typing import Dict, List, NoReturn, Optional, Protocol, Union
+from typing import Dict, List, NoReturn, Optional, Protocol, Sequence, Union
 
-from .tree import Aggregate, Argument, Assign, Call, Data, Expression, Instruct, Name, Node, Parameter, Routine
+from .model import Task
+from .tree import Aggregate, Argument, Assign, Call, Data, Expression, Instruct, Module, Name, Node, Parameter, Routine
 
 # A value of a constant expression.
 Value = Union[float, str, bool, List["Value"]]
@@ -54,6 +55,9 @@ class Context(Protocol):
     def type_of(self, node: Expression) -> str:
         """The name of an expression's type in small letters (ALIAS resolved), "" where it is not known."""
 
+    def parts(self, node: Expression, kind: str) -> List[str]:
+        """The nums of a pos or an orient (`kind`), whatever expression it is."""
+
     def need(self, name: str) -> str:
         """Sees to it that the generated module has the routine or the datum of this name, out of the library; gives the name."""
 
@@ -74,6 +78,16 @@ class Reading(Protocol):
     title: str
     # Whether axes are places of the TCP, so that boxes are zones and joints are not.
     is_places: bool
+
+    # Where the arms start, in thousandths, by the names of the tasks.
+    starts: Dict[str, List[int]]
+
+    def task(self, task: Task, modules: Sequence[Module]) -> None:
+        """Looks at the modules of the task that is converted next."""
+
+    @property
+    def external_axes(self) -> int:
+        """How many external axes the arm of that task has."""
 
     def declared(self, at: Context, it: Data) -> str:
         """The value of a declared robtarget or jointtarget, scalar or array, without `:=`; "" where the declaration gives none.
