@@ -3,6 +3,8 @@ from .actions import ACTIONS, OPTIONS
 from .explain import known_words
 
 SHELLS = ("bash", "zsh")
+# The options that a file's name follows.
+TAKE_FILE = ("-o", "--places", "--joints", "--add", "--cross")
 
 BASH = """\
 # Completion of rapid_cell for bash: source <(./rapid_cell completion bash)
@@ -12,7 +14,7 @@ _rapid_cell() {{
         case $it in -*) ;; *) action=$it; break ;; esac
     done
     COMPREPLY=()
-    if [[ ${{COMP_WORDS[COMP_CWORD-1]}} == -o ]]; then
+    if [[ " {takes_file} " == *" ${{COMP_WORDS[COMP_CWORD-1]}} "* ]]; then
         COMPREPLY=($(compgen -f -- "$word"))
         return
     fi
@@ -30,6 +32,10 @@ _rapid_cell() {{
         local IFS=$'\\n'
         compopt -o filenames 2>/dev/null
         COMPREPLY=($(compgen -f -- "$word")) ;;
+    {takes_folders})
+        local IFS=$'\\n'
+        compopt -o filenames 2>/dev/null
+        COMPREPLY=($(compgen -d -- "$word")) ;;
     explain) COMPREPLY=($(compgen -W "{words}" -- "$word")) ;;
     completion) COMPREPLY=($(compgen -W "{shells}" -- "$word")) ;;
     esac
@@ -45,7 +51,7 @@ _rapid_cell() {{
     for it in "${{(@)words[2,CURRENT-1]}}"; do
         case $it in -*) ;; *) action=$it; break ;; esac
     done
-    if [[ ${{words[CURRENT-1]}} == -o ]]; then
+    if [[ " {takes_file} " == *" ${{words[CURRENT-1]}} "* ]]; then
         _files
         return
     fi
@@ -57,6 +63,7 @@ _rapid_cell() {{
     '') compadd -- {actions} ;;
     {takes_cell}) _files -g '*.toml' ;;
     {takes_history}) _files ;;
+    {takes_folders}) _files -/ ;;
     explain) compadd -- {words} ;;
     completion) compadd -- {shells} ;;
     esac
@@ -72,6 +79,8 @@ def script(shell: str) -> str:
         actions=" ".join(it.name for it in ACTIONS),
         takes_cell="|".join(it.name for it in ACTIONS if it.takes in ("CELL", "CELL..")),
         takes_history="|".join(it.name for it in ACTIONS if it.takes == "CELL HISTORY"),
+        takes_folders="|".join(it.name for it in ACTIONS if it.takes == "BACKUP OUT"),
+        takes_file=" ".join(TAKE_FILE),
         words=" ".join(known_words()),
         shells=" ".join(SHELLS),
     )

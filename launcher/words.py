@@ -119,6 +119,12 @@ def completion(words: Sequence[bytes]) -> int:
     return answered(script(shell)) if shell in SHELLS else wrong(f"completion takes one of {', '.join(SHELLS)}")
 
 
+def import_backup(words: Sequence[bytes]) -> int:
+    from .abb.command import import_words
+
+    return import_words(words)
+
+
 def watch(asked: Asked) -> int:
     if len(asked.words) != 2:
         return wrong("watch takes the script of a cell")
@@ -144,6 +150,7 @@ OWN: Dict[bytes, Callable[[Sequence[bytes]], int]] = {
     b"explain": explain,
     b"build": build_all,
     b"completion": completion,
+    b"import": import_backup,
 }
 
 

@@ -49,6 +49,7 @@ def read_text(module: Module) -> Optional[Text]:
 
 
 def convert(backup: Backup, task: Task, texts: List[Text], reading: Reading, report: Report) -> Converted:
+    reading.task(task, [it.tree for it in texts])
     names = Names(texts)
     declared_names = [*names.shared, *(it for text in texts for it in text.own)]
     job = Job(backup, task, names, reading, report, Library(task, declared_names))
@@ -104,6 +105,7 @@ def finish(job: Job, renderings: List[Rendering]) -> None:
     if job.fires:
         cases = [f"  CASE {n + 1}:\n    {it}" for n, it in enumerate(job.triggers)]
         job.library.add("abb_trigger", "\n".join(["! What a trigger does.", "PROC abb_trigger(num trigger)", "  TEST trigger", *cases, "  ENDTEST", "ENDPROC"]))
+    enter(job)
     if job.repeated is not None and at:
         home = next(it for it in renderings if it.text is job.names.homes["main"])
         name = job.free("main_cycle")
@@ -114,6 +116,13 @@ def finish(job: Job, renderings: List[Rendering]) -> None:
         job.library.add("main", text)
 
 
+def enter(job: Job) -> None:
+    """The main of a task that SYS.cfg starts at another routine."""
+    entry = job.task.entry
+    if entry.lower() != "main" and isinstance(job.names.shared.get(entry.lower()), Routine) and "main" not in job.names.shared:
+        job.library.add("main", f"PROC main()\n  {entry};\nENDPROC")
+
+
 def result(job: Job, renderings: List[Rendering]) -> Converted:
     modules: List[Tuple[str, bytes]] = []
     for at in ordered(renderings):
@@ -121,4 +130,4 @@ def result(job: Job, renderings: List[Rendering]) -> Converted:
     if not job.is_converted:
         first = [f"What the modules of {job.task.name} need and a cell does not have. {job.reading.title}."]
         modules.insert(0, (GENERATED, job.library.text(first)))
-    return Converted(job.task, modules, sorted(job.used), list(job.added.values()))
+    return Converted(job.task, modules, sorted(job.used), list(job.added.values()), job.reading.external_axes)

@@ -91,14 +91,15 @@ class Job:
 
     def need(self, name: str) -> str:
         """Takes an item of the library, with the signals that it names; gives its name."""
+        before = len(self.library.items)
         found = self.library.need(name)
-        for word in ERRORS:
-            if any(word in it for it in self.library.items.values()):
-                self.error(word)
-        for signal, kind in SIGNALS.items():
-            spelled = self.library.spelled(signal)
-            if any(re.search(rf"\b{spelled}\b", it) for it in self.library.items.values()):
-                self.add_signal(spelled, kind)
+        for text in list(self.library.items.values())[before:]:
+            for error in ERRORS:
+                if error in text:
+                    self.error(error)
+            for signal, kind in SIGNALS.items():
+                if re.search(rf"\b{self.library.spelled(signal)}\b", text):
+                    self.add_signal(self.library.spelled(signal), kind)
         return found
 
     # Errors

@@ -7,8 +7,12 @@ from .expressions import quoted
 from .instructions import INSTRUCTIONS, argument
 from .job import plain
 from .rendering import Rendering, inner
-from .tree import Aggregate, Argument, Binary, Call, Data, Expression, Instruct, Name, Routine, Text
+from .tree import Aggregate, Argument, Assign, Binary, Call, Data, Expression, Instruct, Name, Routine, Text
 from .walking import nodes_in
+
+
+# Any text.
+ANY = ".*"
 
 
 def called_late(at: Rendering, node: Instruct, text: Expression, arguments: Optional[List[Argument]] = None) -> str:
@@ -70,18 +74,38 @@ def pattern(at: Rendering, node: Expression) -> str:
         return r"\d+"
     if isinstance(node, Name):
         return pattern_of_name(at, node)
-    return ".*"
+    return ANY
 
 
 def pattern_of_name(at: Rendering, node: Name) -> str:
-    """The values of a constant array, or of what is assigned to a variable in the module."""
+    """The values of a constant array, or what a variable of the task is given."""
     meant = at.datum(node.name)
     if not isinstance(meant, Data):
-        return ".*"
+        return ANY
     if meant.kind == "CONST" and isinstance(meant.value, Aggregate):
         values = [at.constant(it) for it in meant.value.parts]
-        return "(?:" + "|".join(re.escape(it) for it in values if isinstance(it, str)) + ")" if values else ".*"
-    return ".*"
+        return alternatives([re.escape(it) for it in values if isinstance(it, str)])
+    return ANY if meant.kind == "CONST" or meant.sizes or at.routine is None or meant in at.routine.data else given_patterns(at, node, meant)
+
+
+def given_patterns(at: Rendering, node: Name, meant: Data) -> str:
+    """What the assignments to a variable of the module give it; anything where it is passed on."""
+    found: List[str] = []
+    for item in at.text.tree.items:
+        for it in nodes_in(item):
+            if isinstance(it, Argument) and isinstance(it.value, Name) and it.value.name.lower() == node.name.lower():
+                return ANY
+            if isinstance(it, Assign) and isinstance(it.place, Name) and it.place.name.lower() == node.name.lower():
+                found.append(ANY if refers(it.value, node.name) else pattern(at, it.value))
+    return alternatives(found) if found and meant.kind == "VAR" else ANY
+
+
+def refers(node: Expression, name: str) -> bool:
+    return any(isinstance(it, Name) and it.name.lower() == name.lower() for it in nodes_in(node))
+
+
+def alternatives(found: List[str]) -> str:
+    return f"(?:{'|'.join(found)})" if found else ANY
 
 
 def call_by_var(at: Rendering, node: Instruct) -> str:

@@ -203,7 +203,8 @@ class Expressions:
             found = [] if self.kinds[self.at] == ")" else self.arguments()
             self.expect(")")
             return Call(start, self.end(), name, found)
-        return Name(start, self.end(), name, self.parts()) if self.kinds[self.at] in "{." else Name(start, self.end(), name)
+        parts = self.parts() if self.kinds[self.at] in ("{", ".") else []
+        return Name(start, self.end(), name, parts)
 
     def parts(self) -> List[Union[Index, Component]]:
         found: List[Union[Index, Component]] = []

@@ -74,6 +74,12 @@ class Rendering:
 
         return type_of(self, node)
 
+    def parts(self, node: Expression, kind: str) -> List[str]:
+        """The nums of a pos or an orient, of any expression of that type."""
+        from .expressions import parts_of
+
+        return parts_of(self, node, kind)
+
     # Values
 
     def constant(self, node: Expression) -> Optional[Value]:

@@ -43,7 +43,7 @@ def group_setter(at: Rendering, found: Signal) -> str:
     """The routine that sets the bits of a group, the lowest one first."""
     name = at.job.of_parts("Set", found.name)
     lines = [f"! Sets the group {found.name} of {found.bits} bits.", f"PROC {name}(num value)"]
-    lines.append(f"  IF value<0 OR value>{2**found.bits - 1} OR value<>Trunc(value) RAISE {at.need('ERR_GO_LIM')};")
+    lines.append(f"  IF value<0 OR value>{2**found.bits - 1} OR value<>Trunc(value) RAISE {at.job.error('ERR_GO_LIM')};")
     for it in range(found.bits):
         part = "value MOD 2" if it == 0 else f"value DIV {2**it} MOD 2"
         lines.append(f"  SetDO {bit_name(found.name, it)},{part};")

@@ -93,7 +93,7 @@ def ui_function(at: Rendering, node: Call) -> str:
 
 def stop(at: Rendering, node: Instruct) -> str:
     """Stop, Break: a text, and a wait for the start."""
-    return f"{at.need('abb_Stop')} {quoted(node.name)};"
+    return f"{at.need('abb_halt')} {quoted(node.name)};"
 
 
 def exit_cycle(at: Rendering, node: Instruct) -> str:

@@ -64,4 +64,4 @@ def wait_time(at: Rendering, node: Instruct) -> str:
 
 INSTRUCTIONS.update({"waitdi": wait_signal, "waitdo": wait_signal, "waituntil": wait_until, "waittime": wait_time})
 INSTRUCTIONS.update({it: wait_value for it in ("waitgi", "waitgo", "waitai", "waitao")})
-INSTRUCTIONS["waittestandset"] = kept
+INSTRUCTIONS.update({it: kept for it in ("waittestandset", "incr", "decr", "clear", "add")})
