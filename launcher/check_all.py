@@ -3,6 +3,7 @@ from pathlib import Path
 from typing import List
 
 from . import faults, program, refusals, shown
+from .abb import recognized
 from .program import Program
 from .refusals import Kind
 from .say import is_coloured, put_err, put_out, say, show
@@ -13,10 +14,12 @@ SEE = " see ./rapid_cell explain "
 
 
 def check_all(found: Program, words: List[bytes], script: Path, is_plain: bool) -> int:
-    """Checks a cell, and shows its errors in the order of its files. Returns the status of the first check."""
+    """Checks a cell, and shows its errors in the order of its files. Returns the status of the first check. Of a module of an ABB controller
+    only the first error is shown, and what to do with its backup: all its errors would be of the same few kinds."""
     first = program.answer(found, words)
     refusal = refusals.parse(first.err)
-    if refusal is None or refusal.kind not in (Kind.SCRIPT, Kind.MODULE, Kind.READ, Kind.LONG) or not script.is_file():
+    is_whole = refusal is None or refusal.kind not in (Kind.SCRIPT, Kind.MODULE, Kind.READ, Kind.LONG) or not script.is_file()
+    if is_whole or refusal is not None and not is_plain and recognized.advice(refusal, script):
         put_out(first.out.decode(errors="surrogateescape"))
         put_err(first.err)
         if refusal and not is_plain:

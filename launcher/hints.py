@@ -6,6 +6,7 @@ from pathlib import Path
 from typing import Iterable, List, Optional, Sequence
 
 from . import actions
+from .abb.recognized import is_backup
 from .refusals import Kind, Refusal
 from .say import HINT
 from .texts import LONGEST_HISTORY, LONGEST_MODULE, LONGEST_SCRIPT, Cell
@@ -126,6 +127,8 @@ def unread(file: Path) -> str:
     try:
         kind = os.stat(file).st_mode
         if stat.S_ISDIR(kind):
+            if is_backup(file):
+                return f"{name} is a backup of an ABB controller: ./rapid_cell import {name} OUT makes a cell of it"
             inner = sorted((it.name for it in file.glob("*.toml")), key=lambda it: (it != "cell.toml", it))
             return f"{name} is a folder{f': did you mean {shown_path(file / inner[0])}?' if inner else ''}"
         with open(os.open(file, os.O_RDONLY | os.O_NONBLOCK), "rb"):

@@ -4,6 +4,7 @@ from pathlib import Path
 from typing import List, Mapping, Optional, Sequence
 
 from . import actions, causes, hints, toml_faults, toml_places
+from .abb import recognized
 from .excerpt import Place, excerpt, note
 from .refusals import Kind, Refusal
 from .texts import Cell, Module, place_of, read, read_cell
@@ -20,7 +21,7 @@ def shown(refusal: Refusal, words: Sequence[bytes], is_coloured: bool = False) -
     script, history = script_of(words), history_of(words)
     if refusal.kind is Kind.HISTORY:
         return of_history(refusal, history)
-    return of_cell(refusal, script, {}, is_coloured, history=history) if script else []
+    return of_cell(refusal, script, {}, is_coloured, history=history) + recognized.advice(refusal, script) if script else []
 
 
 def of_history(refusal: Refusal, history: Optional[bytes]) -> List[str]:

@@ -12,11 +12,6 @@ from .signals import read_signals, system_uses
 from .tasks import read_tasks
 
 
-def is_backup(folder: Path) -> bool:
-    """Whether a folder looks as a backup of a controller does."""
-    return folder.is_dir() and any(child(folder, it) for it in ("RAPID", "SYSPAR", "BACKINFO"))
-
-
 def read_backup(folder: Path, cross: Optional[Path], report: Report) -> Backup:
     """Reads the backup in a folder, and the rows of cross connections of a file. NotRead at the first thing that is wrong."""
     if not folder.is_dir():

@@ -1,0 +1,1 @@
+"""What bench/import_test needs: backups, expectations, and the reading of both."""
