@@ -1,5 +1,5 @@
 """The conversion of a task: its modules, each line at its old number, and the generated module."""
-from typing import List, Optional, Tuple
+from typing import List, Optional, Set, Tuple
 
 from . import rules
 from .declarations import declared
@@ -11,6 +11,7 @@ from .model import Backup, Converted, Module, NotRead, Task
 from .names import Names, Text
 from .order import ordered
 from .parser import parse_text
+from .polling import write_changed
 from .reading import Reading
 from .rendering import Rendering
 from .report import CHANGED, LEFT_OUT, NOT_KEPT, TO_DECIDE, Report
@@ -48,11 +49,12 @@ def read_text(module: Module) -> Optional[Text]:
     return Text(module.name, tree, characters, encoding) if tree else None
 
 
-def convert(backup: Backup, task: Task, texts: List[Text], reading: Reading, report: Report) -> Converted:
+def convert(backup: Backup, task: Task, texts: List[Text], others: Set[str], reading: Reading, report: Report) -> Converted:
+    """Converts the modules of a task. `others` are the names that other tasks write."""
     reading.task(task, [it.tree for it in texts])
     names = Names(texts)
     declared_names = [*names.shared, *(it for text in texts for it in text.own)]
-    job = Job(backup, task, names, reading, report, Library(task, declared_names))
+    job = Job(backup, task, names, reading, report, Library(task, declared_names), others=others)
     job.raised = raised_numbers(texts)
     guess_signals(job)
     repeat_main(job)
@@ -105,6 +107,8 @@ def finish(job: Job, renderings: List[Rendering]) -> None:
     if job.fires:
         cases = [f"  CASE {n + 1}:\n    {it}" for n, it in enumerate(job.triggers)]
         job.library.add("abb_trigger", "\n".join(["! What a trigger does.", "PROC abb_trigger(num trigger)", "  TEST trigger", *cases, "  ENDTEST", "ENDPROC"]))
+    if job.is_polling:
+        write_changed(job)
     enter(job)
     if job.repeated is not None and at:
         home = next(it for it in renderings if it.text is job.names.homes["main"])

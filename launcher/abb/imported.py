@@ -9,6 +9,7 @@ from .convert import convert, read_texts
 from .joints import Joints
 from .model import Backup, Converted
 from .places import Places
+from .polling import written_names
 from .reading import Reading
 from .report import NOT_KEPT, Report
 from .report_text import report_text
@@ -47,7 +48,12 @@ def import_backup(wanted: Wanted) -> Imported:
     backup = read_backup(wanted.backup, wanted.cross, found.report)
     reading = reading_of(wanted, backup, found.report)
     texts = [(task, read_texts(task, found.report)) for task in backup.tasks]
-    tasks = [convert(backup, task, it, reading, found.report) for task, it in texts if it]
+    written = {task.name: written_names(it) for task, it in texts}
+    tasks = []
+    for task, it in texts:
+        if it:
+            others = {name for other, names in written.items() if other != task.name for name in names}
+            tasks.append(convert(backup, task, it, others, reading, found.report))
     add = wanted.add.read_bytes() if wanted.add else None
     for it in tasks:
         found.files.update({f"{it.task.name}/{name}": text for name, text in it.modules})

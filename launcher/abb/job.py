@@ -48,6 +48,9 @@ class Job:
     sync_list: Optional[str] = None
     # The main that is run again and again, by a background task.
     repeated: Optional[Routine] = None
+    # What other tasks write, in small letters; whether a loop of the task only looks.
+    others: Set[str] = field(default_factory=set)
+    is_polling: bool = False
     # What is done with signals by their numbers.
     helpers: Set[str] = field(default_factory=set)
     # Declared error numbers that BookErrNo gave.

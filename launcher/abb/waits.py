@@ -4,6 +4,7 @@ from typing import Optional
 from .expressions import options_of
 from .instructions import INSTRUCTIONS, argument, kept, named
 from .loops import is_polling
+from .polling import NAME
 from .rendering import Rendering, grouped
 from .signal_rules import passed_name
 from .tree import Instruct
@@ -57,7 +58,8 @@ def wait_until(at: Rendering, node: Instruct) -> str:
 def wait_time(at: Rendering, node: Instruct) -> str:
     """In a loop that only looks again and again, a wait until something of the cell changes."""
     if is_polling(at, node):
-        return f"WaitUntil {at.need('abb_changed')}();"
+        at.job.is_polling = True
+        return f"WaitUntil {NAME}();"
     return kept(at, node)
 
 
