@@ -1,24 +1,12 @@
 """What the modules of a task declare, looked at before the conversion: values of constant expressions, robtargets, and routines."""
-from dataclasses import fields, is_dataclass
 from typing import Dict, Iterator, List, Optional, Sequence, Tuple, Union
 
-from .tree import Aggregate, Binary, Data, Expression, Group, Module, Name, Node, Number, Routine, Text, Truth, Unary
+from .tree import Aggregate, Binary, Data, Expression, Group, Module, Name, Number, Routine, Text, Truth, Unary
+from .walking import nodes_in
 
 Value = Union[float, str, bool, List["Value"]]
 # What takes the place of a value where an axis has none: 9E9.
 NONE_ABOVE = 8.9e9
-
-
-def nodes_of(node: object) -> Iterator[Node]:
-    """A node and all below it, in the order of the text."""
-    if isinstance(node, Node):
-        yield node
-    if is_dataclass(node) and not isinstance(node, type):
-        for it in fields(node):
-            yield from nodes_of(getattr(node, it.name))
-    elif isinstance(node, list):
-        for part in node:
-            yield from nodes_of(part)
 
 
 class Literals:
@@ -70,7 +58,7 @@ class Literals:
     def brackets(self) -> Iterator[Value]:
         """The values of all brackets of the modules that are constant."""
         for module in self.modules:
-            for node in nodes_of(module):
+            for node in nodes_in(module):
                 value = self.value(node) if isinstance(node, Aggregate) else None
                 if value is not None:
                     yield value

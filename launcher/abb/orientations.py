@@ -3,8 +3,9 @@ from dataclasses import dataclass, field
 from typing import Iterable, Iterator, List
 
 from .geometry import Vector, angles_of, matrix_of, of_angles, product, shown, turned
-from .literals import NONE_ABOVE, Literals, Value, jointtarget, nodes_of, numbers, robtarget
+from .literals import NONE_ABOVE, Literals, Value, jointtarget, numbers, robtarget
 from .tree import Call
+from .walking import nodes_in
 
 
 @dataclass
@@ -58,7 +59,7 @@ def orientations_in(values: Iterable[Value]) -> List[Vector]:
 def computed_in(literals: Literals) -> Iterator[Vector]:
     """The orientations of OrientZYX and of RelTool with constant arguments, as angles."""
     for module in literals.modules:
-        for node in nodes_of(module):
+        for node in nodes_in(module):
             if isinstance(node, Call) and node.name.lower() == "orientzyx":
                 turns = numbers([literals.value(it.value) for it in node.arguments], 3)
                 if turns:

@@ -2,8 +2,9 @@
 from dataclasses import dataclass
 from typing import Iterator, List, Optional, Set
 
-from .literals import Literals, Value, jointtarget, nodes_of, numbers, robtarget
+from .literals import Literals, Value, jointtarget, numbers, robtarget
 from .tree import Call, Expression, Instruct, Name, Routine
+from .walking import nodes_in
 
 MOVES = ("movej", "movel", "moveabsj", "moveextj", "movejdo", "moveldo", "movejsync", "movelsync")
 
@@ -32,7 +33,7 @@ def moves_of(literals: Literals, routine: Routine, seen: Set[str]) -> Iterator[I
     """The moves of a routine and of those that it calls, each routine once."""
     seen.add(routine.name.lower())
     for statement in routine.body:
-        for node in nodes_of(statement):
+        for node in nodes_in(statement):
             if isinstance(node, Instruct) and node.name.lower() in MOVES:
                 yield node
             called = literals.routines.get(node.name.lower()) if isinstance(node, (Instruct, Call)) else None

@@ -1,8 +1,9 @@
 """Which tool and work object each position is used with: by the statements that name them together, calls of process routines included."""
 from typing import Dict, List, NamedTuple, Optional, Tuple, Union
 
-from .literals import Literals, nodes_of
+from .literals import Literals
 from .tree import Aggregate, Argument, Call, Expression, Instruct, Name, Parameter, Routine
+from .walking import nodes_in
 
 CallNode = Union[Call, Instruct]
 
@@ -24,7 +25,7 @@ class Uses:
         self.literals = literals
         self.pairs: Dict[str, List[Pair]] = {}
         for routine in literals.routines.values():
-            for node in nodes_of(routine):
+            for node in nodes_in(routine):
                 if isinstance(node, (Instruct, Call)) and node.name.lower() not in COMPUTED:
                     self.take(routine, node)
 
@@ -78,7 +79,7 @@ class Uses:
 
     def pair_of_parameter(self, routine: Routine, parameter: Parameter, depth: int) -> Pair:
         """The pair of the first move, or call, of a routine that uses a parameter; it may have names of other parameters."""
-        for node in nodes_of(routine) if depth < 10 else ():
+        for node in nodes_in(routine) if depth < 10 else ():
             if not isinstance(node, (Instruct, Call)) or node.name.lower() in COMPUTED:
                 continue
             names = [base_of(it.value) for it in node.arguments if it.value is not None and not it.option]
