@@ -8,7 +8,7 @@ from .job import plain
 from .paths import sizes_of
 from .reading import POSITIONS
 from .rendering import Lost, Rendering, inner
-from .report import NOT_KEPT
+from .report import NOT_KEPT, TO_DECIDE
 from .tree import Aggregate, Data
 
 Change = Tuple[int, int, str]
@@ -17,6 +17,8 @@ Change = Tuple[int, int, str]
 def declared(at: Rendering, it: Data) -> None:
     base = at.base(it.type)
     if is_dropped(at, base) or base == types.WORK_OBJECT or base in types.SIGNALS:
+        if base == types.WORK_OBJECT:
+            tell_frame(at, it)
         at.left_out(it)
         return
     try:
@@ -25,6 +27,16 @@ def declared(at: Rendering, it: Data) -> None:
         at.note(NOT_KEPT, it, f"the value of {it.name}: {lost.why}")
         new = without_value(at, it, base)
     at.replaced(it, new)
+
+
+def tell_frame(at: Rendering, it: Data) -> None:
+    """A work object that a unit or the robot moves, if a move names it: in the cell it stands where its declaration has it."""
+    value = at.constant(it.value) if it.value else None
+    if not isinstance(value, list) or len(value) < 3 or (value[0] is False and value[1] is True and not value[2]):
+        return
+    if it.name.lower() in at.job.names.frames():
+        by = "the robot holds it" if value[0] else f"{value[2] or 'a unit'} moves it"
+        at.note(TO_DECIDE, it, f"the work object {it.name} stands where it is declared, but {by}")
 
 
 def of_value(at: Rendering, it: Data, base: str) -> str:

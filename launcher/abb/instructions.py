@@ -3,8 +3,9 @@ from typing import Callable, Dict, Optional, Sequence
 
 from .calls import called
 from .expressions import options_of, render_as, values_of
-from .left_out import LEFT_OUT
+from .left_out import LEFT_OUT, TOLD
 from .rendering import Rendering
+from .report import TO_DECIDE
 from .tree import Expression, Instruct, Name, Routine
 
 # What an instruction becomes: its text, or None where it is left out.
@@ -22,6 +23,8 @@ def instructed(at: Rendering, node: Instruct) -> Optional[str]:
     if isinstance(meant, Routine):
         return called(at, node, meant)
     small = node.name.lower()
+    if small in TOLD:
+        at.note(TO_DECIDE, node, f"{at.source(node)} is left out: moves go where they are programmed")
     if small in LEFT_OUT:
         return None
     rule = INSTRUCTIONS.get(small)

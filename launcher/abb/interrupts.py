@@ -41,6 +41,7 @@ def i_timer(at: Rendering, node: Instruct) -> str:
     if not isinstance(found, Name):
         return at.lost(node, "a timer of what is no name")
     timer = at.job.timer(found.name)
+    at.note(TO_DECIDE, node, f"{at.source(node)}: a cell has no time, so the input {timer} of the script stands for the timer")
     return f"ISignalDI{single(at, node) or ' '}{timer},1,{at.render(interrupt)};"
 
 

@@ -32,7 +32,5 @@ LEFT_OUT = frozenset(
     safetycontrollersyncrequest mpspeedlim eoffson eoffsoff eoffsset pdispon pdispoff pdispset
     """.split()
 )
-# Those that change what moves mean: they are told under what is to be decided.
-DISPLACED = frozenset("pdispset pdispon pdispoff eoffsset eoffson eoffsoff".split())
-# Those that would give a value which the program uses later.
-GIVING = frozenset("socketreceive socketreceivefrom rmqgetmessage rmqgetmsgdata readerrdata gettrapdata camwaitloadjob load waitload".split())
+# Those that change what the moves after them mean: they are told under what is to be decided.
+TOLD = frozenset("pdispset pdispon pdispoff eoffsset eoffson eoffsoff softact".split())

@@ -7,7 +7,7 @@ from .rendering import Rendering, inner
 from .report import TO_DECIDE
 from .signal_rules import group_setter, output
 from .together import before_move
-from .tree import Expression, Instruct, Name
+from .tree import Expression, Instruct, Name, Parameter
 
 
 class Form(NamedTuple):
@@ -81,20 +81,20 @@ def target_text(at: Rendering, node: Instruct, target: Expression, tool_at: int,
         frame: Optional[Expression] = Name(wobj.start, wobj.end, wobj.given)
     else:
         frame = wobj.value if wobj else None
-    if kind == "robtarget":
-        tell_tool(at, node, tool)
+    tell_tool(at, node, tool)
     return at.job.reading.target(at, target, kind, tool, frame)
 
 
 def tell_tool(at: Rendering, node: Instruct, tool: Optional[Expression]) -> None:
-    """Keeps which tools the moves of a task name: more than one is told."""
+    """Keeps which tools the moves of a task name; the first move with a second one is told."""
     found = inner(tool) if tool else None
-    if isinstance(found, Name) and at.datum(found.name) is None or isinstance(found, Name) and not hasattr(at.datum(found.name), "dimensions"):
-        tools = at.job.tools
-        if found.name.lower() not in tools:
-            tools[found.name.lower()] = found.name
-            if len(tools) == 2:
-                at.note(TO_DECIDE, node, f"the task moves with more than one tool: {' and '.join(tools.values())}")
+    if not isinstance(found, Name) or isinstance(at.datum(found.name), Parameter):
+        return
+    tools = at.job.tools
+    if found.name.lower() not in tools:
+        tools[found.name.lower()] = found.name
+        if len(tools) == 2:
+            at.note(TO_DECIDE, node, f"the task moves with more than one tool, {' and '.join(tools.values())}: the TCP is another point")
 
 
 def speed(at: Rendering, node: Instruct, number: int) -> str:

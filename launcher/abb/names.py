@@ -2,10 +2,10 @@
 import bisect
 import re
 from dataclasses import dataclass, field
-from typing import Dict, List, Optional, Tuple, Union
+from typing import Dict, List, Optional, Set, Tuple, Union
 
 from . import types
-from .tree import Alias, Data, Instruct, Module, Parameter, Record, Routine
+from .tree import Alias, Data, Instruct, Module, Name, Parameter, Record, Routine
 from .walking import nodes_in
 
 # How deep records are in one another, in a program that is one.
@@ -72,6 +72,11 @@ class Names:
             nodes = (node for text in self.texts for item in text.tree.items for node in nodes_in(item))
             self.called = [it for it in nodes if isinstance(it, Instruct)]
         return self.called
+
+    def frames(self) -> Set[str]:
+        """The names that stand after \\WObj, in small letters."""
+        found = (it.value for node in self.instructions() for it in node.arguments if it.option.lower() == "wobj")
+        return {it.name.lower() for it in found if isinstance(it, Name)}
 
     def routine(self, text: Text, name: str) -> Optional[Routine]:
         found = self.item(text, name)
