@@ -8,7 +8,15 @@ from pathlib import Path
 
 LAUNCHER = Path(__file__).resolve().parent.parent.parent / "rapid_cell"
 # The kinds of entries that are compared whole, by their headings in the report.
-KINDS = {"not kept": "Not kept", "to decide": "To decide", "missing": "Rows that are missing", "unwatched": "Zones that are not watched"}
+KINDS = {
+    "not kept": "Not kept",
+    "to decide": "To decide",
+    "missing": "Rows that are missing",
+    "computed": "Guessed",
+    "unwatched": "Zones that are not watched",
+}
+# The statuses of a cell that was accepted and ran.
+RAN = (0, 1, 8, 9)
 TABLES = {"--places": "places.csv", "--joints": "joints.csv", "--add": "add.toml", "--cross": "cross.cfg"}
 ENTRY = re.compile(r"  (?:[\w?]+ )?(?:([\w.? ]+?):(\d+): )?(.*)")
 
@@ -98,12 +106,12 @@ def read(file):
     return found
 
 
-def launch(*words, seconds=120):
+def launch(*words, seconds=600):
     ran = subprocess.run([LAUNCHER, *words], stdin=subprocess.DEVNULL, capture_output=True, timeout=seconds)
     return ran.returncode, ran.stdout.decode(errors="replace"), ran.stderr.decode(errors="replace")
 
 
-def imported(backup, out, options):
+def imported(backup, out):
     """Imports a backup with what stands beside it."""
     given = [word for option, name in TABLES.items() if (backup / name).is_file() for word in (option, backup / name)]
     got = Got()
@@ -118,29 +126,29 @@ def read_report(got, text):
     kind = None
     for line in text.splitlines():
         if line and not line.startswith(" "):
-            kind = next((it for it, heading in KINDS.items() if line.startswith(heading)), "guessed" if line.startswith("Guessed") else None)
+            kind = next((it for it, heading in KINDS.items() if line.startswith(heading)), None)
             continue
         found = ENTRY.fullmatch(line) if kind else None
         start = re.match(r"  (\w+): the arm starts at (\w+), the first", line)
         if start:
             got.starts[start[1]] = start[2]
-        elif found and kind in KINDS:
+        elif found and (found[1] or kind != "computed"):
             got.entries[kind].append((found[1], int(found[2] or 0)))
 
 
-def run(got, backup, out, options):
-    """Checks and runs a cell."""
+def run(got, backup, out, options, needs_places):
+    """Checks and runs a cell, and looks where its tasks were last, if that is needed."""
     cell = out / "cell.toml"
     got.signals = len(signals_of(cell.read_text(encoding="utf-8"), backup))
-    status, printed, said = launch(*options, "check", cell)
-    got.is_accepted = status == 0
-    if status:
+    status, printed, said = launch(*options, "round", cell)
+    got.is_accepted = status in RAN
+    if not got.is_accepted:
         got.said = said
         return
-    got.run_status, printed, _ = launch(*options, "round", cell)
+    got.run_status = status
     got.lines = [it for it in printed.splitlines() if it[:2] in ("T ", "E ")]
     own = {it.name for it in backup.glob("RAPID/**/*") if it.is_file()}
-    for line in launch(*options, "trace", cell)[1].splitlines():
+    for line in launch(*options, "trace", cell)[1].splitlines() if needs_places else ():
         words = line.split(" ")
         if words[0] == "M" and os.path.basename(words[2]) in own and words[4:5] == ["Look"]:
             got.places[words[1]] = (os.path.basename(words[2]), int(words[3].split(":")[0]))
