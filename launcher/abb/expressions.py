@@ -173,7 +173,8 @@ def operated(at: Rendering, node: Expression, kind: str) -> List[str]:
         return [f"({node.sign}{grouped(it)})" for it in parts_of(at, node.operand, kind)]
     if not isinstance(node, Binary) or node.sign not in "+-*/":
         return []
-    sides = [parts_of(at, it, kind) if at.type_of(it) == kind else [at.render(it)] * 3 for it in (node.left, node.right)]
+    is_sum = node.sign in "+-"
+    sides = [parts_of(at, it, kind) if is_sum or at.type_of(it) == kind else [at.render(it)] * 3 for it in (node.left, node.right)]
     return [f"({grouped(a)}{node.sign}{grouped(b)})" for a, b in zip(*sides)]
 
 

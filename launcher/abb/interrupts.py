@@ -30,7 +30,7 @@ def i_signal(at: Rendering, node: Instruct) -> str:
         return at.lost(node, "an order on both edges")
     wanted = "ISignalDI" if signal.kind == "DI" and not signal.is_crossed else "ISignalDO"
     if wanted.lower() == node.name.lower() and set(options_of(node.arguments)) <= {"single"}:
-        return kept(at, node)
+        return kept(at, node, [], ["single"])
     return f"{wanted} {single(at, node)}{signal.name},{at.render(value)},{at.render(argument(at, node, 2))};".replace(" \\", "\\")
 
 
@@ -49,7 +49,7 @@ def i_pers(at: Rendering, node: Instruct) -> str:
     place = inner(argument(at, node, 0))
     if not isinstance(place, Name) or place.parts:
         return at.lost(node, "an order on a part of a persistent")
-    return kept(at, node)
+    return kept(at, node, [], ["single"])
 
 
 def i_delete(at: Rendering, node: Instruct) -> str:

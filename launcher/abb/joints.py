@@ -92,7 +92,8 @@ class Joints:
     def elements(self, at: Context, it: Data, value: Value, pair: Pair, index: List[int]) -> str:
         assert it.value is not None
         if len(index) < len(it.sizes) and isinstance(value, list):
-            return "[" + ",".join(self.elements(at, it, part, pair, [*index, n]) for n, part in enumerate(value, 1)) + "]"
+            parts = [self.elements(at, it, part, pair, [*index, n]) for n, part in enumerate(value, 1)]
+            return f"[{','.join(part[1:-1] if len(index) + 1 < len(it.sizes) else part for part in parts)}]"
         named = it.name + ("{" + ",".join(map(str, index)) + "}" if index else "")
         return self.value_of(at, it.value, f"{at.module}.{named}", pair, value, self.source_of(at, it, named, value))
 

@@ -196,7 +196,7 @@ class Parts:
 
     def distance(self, at: Context, node: Call) -> str:
         one, other = (at.parts(it, "pos") for it in positional(at, node, 2))
-        root = at.need("Sqrt")
+        root = at.need("abb_Sqrt")
         head = "num Distance(num a,num b,num c,num x,num y,num z)"
         name = at.add("Distance", texts.function(head, [f"RETURN {root}((a-x)*(a-x)+(b-y)*(b-y)+(c-z)*(c-z));"]))
         return f"{name}({','.join(one + other)})"

@@ -72,7 +72,8 @@ class Places:
                 return at.source(node)
             rest = "{" + position.split("{", 1)[1][:-1] + "," if "{" in position else "{"
             name = position.split("{", 1)[0]
-            return "[" + ",".join(self.value_text(at, node, it, kind, f"{name}{rest}{n}}}", depth - 1) for n, it in enumerate(value, 1)) + "]"
+            parts = [self.value_text(at, node, it, kind, f"{name}{rest}{n}}}", depth - 1) for n, it in enumerate(value, 1)]
+            return f"[{','.join(it[1:-1] if depth > 1 else it for it in parts)}]"
         if kind == "jointtarget" or jointtarget(value):
             return self.joints_text(at, node, value, position)
         parts = robtarget(value)
