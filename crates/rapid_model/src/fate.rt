@@ -17,8 +17,8 @@ pub enum Fault {
     TaskName,
     /// A move in a trap.
     MoveInTrap,
-    /// A target has an angle beyond ±720 degrees for one of axes 1 to 6, or does not give it (RAPID Instructions:
-    /// MoveAbsJ).
+    /// A target does not give an angle for one of the arm's axes, or one that is out of reach: beyond ±720 degrees for
+    /// axes 1 to 6, beyond ±100,000 for an external axis (RAPID Instructions: MoveAbsJ).
     JointRange,
     /// The speed of a move is not positive.
     Speed,
@@ -32,7 +32,7 @@ pub enum Fault {
     ZoneUsed,
     /// The zone variable does not name a temporary zone.
     NoZone,
-    /// A zone bounds an external axis.
+    /// A zone bounds an external axis that the arm does not have.
     ExtAxis,
     /// More than 1,024 interrupts were waiting.
     TrapFlood,
