@@ -38,5 +38,6 @@ pub mod Follow
 mod InterruptsTold
 mod InterruptsStay
 mod SignalsKept
+mod WrittenStay
 mod LastOfRound
 mod OrderExamples

@@ -98,3 +98,7 @@ moved_and_freed = refl
 
 off_leaves : signals_after doors (tied ++ went ∷ off ∷ []) ≡ true ∷ false ∷ []
 off_leaves = refl
+
+-- an output that a task wrote keeps its value while other outputs are set by zones and moves
+written_stays : signals_after doors (event 1 (requests.WriteS 1 true) answers.Ok ∷ tied_one ∷ went ∷ event 0 (requests.ZoneFree 1) answers.Ok ∷ []) ≡ true ∷ true ∷ []
+written_stays = refl

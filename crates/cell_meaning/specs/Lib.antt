@@ -24,3 +24,4 @@ pub mod MeetingsSince
 pub mod ZonesSince
 pub mod OutputsFollow
 pub mod Setting
+pub mod SignalsSince

@@ -19,5 +19,5 @@ pub use laws::{
 };
 pub use told::{
     disabled_tasks_begin_no_trap, fates_are_as_ended, floods_stay, new_numbers_are_least,
-    queues_stay, script_comes_last, signals_are_as_set,
+    queues_stay, script_comes_last, signals_are_as_set, written_signals_stay,
 };

@@ -15,6 +15,7 @@ ghost use Rattle.cell_meaning.specs.Interrupts.{interrupts_of};
 ghost use Rattle.cell_meaning.specs.InterruptsSince.{BeginsTrap, Connects, Deletes, Disables, Enables};
 ghost use Rattle.cell_meaning.specs.Premises.{AllAnswered};
 ghost use Rattle.cell_meaning.specs.Setting.{may_set};
+ghost use Rattle.cell_meaning.specs.SignalsSince.{SetsAnew, WritesSignal};
 ghost use Rattle.cell_meaning.specs.Since.{Since, IsEvent};
 ghost use Rattle.cell_meaning.specs.Stored.{signal_after, signals_after};
 ghost use Rattle.cell_meaning.specs.Turns.{IsRound};
@@ -43,6 +44,12 @@ pub fn signals_are_as_set()
     ensures fed { (cell : CellData) (history : List Event) (actor index : ℕ) (row : InputRow) (e : Event) → IsEvent actor (requests.Input index) answers.Ok e → slice_get cell.inputs index ≡ Some row → row.signal < length cell.signals → signal_after cell (history ++ e ∷ []) row.signal ≡ row.value }
     ensures unfed { (cell : CellData) (history : List Event) (actor index other : ℕ) (row : InputRow) (e : Event) → IsEvent actor (requests.Input index) answers.Ok e → slice_get cell.inputs index ≡ Some row → (other ≡ row.signal → ⊥) → signal_after cell (history ++ e ∷ []) other ≡ signal_after cell history other }
     ensures kept { (cell : CellData) (history : List Event) (e : Event) → may_set e.request e.answer ≡ false → signals_after cell (history ++ e ∷ []) ≡ signals_after cell history }
+{}
+
+/// A law: a signal has the value that a task last wrote to it, unless the input script has set it since or a zone was
+/// given with it as output. No move changes it, nor does a zone of another output.
+pub fn written_signals_stay()
+    ensures { (cell : CellData) (history : List Event) (signal : ℕ) (value : Bool) → AllAnswered cell history → signal < length cell.signals → Since (WritesSignal signal value) (SetsAnew cell signal) history → signal_after cell history signal ≡ value }
 {}
 
 /// A law: once a task is told of a flood, it is told so for good.
