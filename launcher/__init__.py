@@ -8,11 +8,15 @@ Words:
     say             what the launcher prints, and its own statuses
     hints           what helps where words or a file are refused
     completion      completion for the shell
-    version         the commit, the kit, and the program that answers
+    version         the version, the commit, the kit, and the program that answers
 The program:
-    places          where the checkout and its files lie
+    places          where the program and its files lie, in a checkout or where they were installed
     program         finds the program, runs it, becomes it
     build           proves the crates and builds the program
+    proof           what the kit said of each crate when it proved it, kept with a checksum of what it was proved from
+    record          the record of a proof, PROVED, and `proved RECORD`
+    package         `package`: the record, a Debian package (debian) and a tar.gz (packed has what is in both)
+    man             the man page, from the table of words
     child           a child process that does not outlive the launcher
     kept            the unproved program, kept with a checksum of the sources
 Texts:

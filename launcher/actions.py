@@ -3,6 +3,8 @@ import difflib
 from dataclasses import dataclass
 from typing import Iterable, List, Optional
 
+from .places import COMMAND, FIRST_CELL, IS_INSTALLED, TOP
+
 
 @dataclass(frozen=True)
 class Action:
@@ -16,9 +18,12 @@ class Action:
 
 @dataclass(frozen=True)
 class Option:
+    """An option: its name, whether it is the program's or the launcher's, what it does, and what its next word is, if it takes one."""
+
     name: str
     is_programs: bool
     does: str
+    takes: str = ""
 
 
 ACTIONS = (
@@ -40,9 +45,11 @@ ACTIONS = (
     Action("watch", "CELL", False, "checks again whenever a file of the cell changes; Ctrl-C ends it"),
     Action("explain", "WORD", False, "a rule, a fault, a status, an error's number, or any word of RAPID: its cause, an\nexample, what to write instead"),
     Action("build", "", False, "proves every crate of the program and builds it: an hour or more the first time"),
+    Action("package", "", False, "packs the proved program as a Debian package and as a tar.gz, in the current folder, or\nin the one that -o FOLDER says"),
+    Action("proved", "RECORD", False, "compares the checkout with the record of a proof, PROVED, that an installed program has"),
     Action("lsp", "CELL", False, "a language server on standard input and output (docs/EDITORS.md)"),
-    Action("completion", "SHELL", False, "prints completions for bash or zsh: source <(./rapid_cell completion bash)"),
-    Action("version", "", False, "what this is: commit, kit, proved or not (-V, --version)"),
+    Action("completion", "SHELL", False, f"prints completions for bash, zsh or fish: source <({COMMAND} completion bash)"),
+    Action("version", "", False, "what this is: version, commit, kit, proved or not (-V, --version)"),
     Action("help", "", False, "lists all words (-h, --help)"),
 )
 OPTIONS = (
@@ -50,23 +57,33 @@ OPTIONS = (
     Option("--all", False, "with check: goes on after an error, and shows up to 50 errors at once"),
     Option("--run", False, "with table, show and why: gives each task a thread, as run does"),
     Option("--lcov", False, "with cover: prints the counts as a tracefile of lcov, for editors"),
-    Option("-o", False, "with show, before the name of a file: writes the page there"),
+    Option("-o", False, "with show, before the name of a file: writes the page there; with package, before that of a folder", "NAME"),
+    Option("--gate", False, "with package, before the name of a file with what rt ci printed: its last lines go into the record", "FILE"),
     Option("--source", False, "with list: prints each operation below the line of the module that it belongs to"),
-    Option("--places", False, "with import, before the name of a table: the places of positions that a backup has as joints"),
-    Option("--joints", False, "with import, before the name of a table: positions are joints, and the table has them"),
-    Option("--add", False, "with import, before the name of a file: inputs and answers, which end the script of the cell"),
-    Option("--cross", False, "with import, before the name of a file: more cross connections, in the form of EIO.cfg"),
+    Option("--places", False, "with import, before the name of a table: the places of positions that a backup has as joints", "FILE"),
+    Option("--joints", False, "with import, before the name of a table: positions are joints, and the table has them", "FILE"),
+    Option("--add", False, "with import, before the name of a file: inputs and answers, which end the script of the cell", "FILE"),
+    Option("--cross", False, "with import, before the name of a file: more cross connections, in the form of EIO.cfg", "FILE"),
     Option("--again", False, "with import: imports into a folder that has files, and tells what changed since the last time"),
     Option("--plain", False, "prints only the program's own lines"),
     Option("--proved", False, "waits for the proof if the program is not built yet, instead of giving an unproved answer"),
     Option("--unproved", False, "answers with the unproved program, even if the proved one is built"),
 )
-SHORT = """\
-./rapid_cell check CELL      checks a cell: try examples/first_move/cell.toml
-./rapid_cell round CELL      checks and runs it
-./rapid_cell explain WORD    explains a rule, a fault, a status or a word of RAPID
-./rapid_cell --help          lists all words
+SHORT = f"""\
+{COMMAND} check CELL      checks a cell: try {FIRST_CELL}
+{COMMAND} round CELL      checks and runs it
+{COMMAND} explain WORD    explains a rule, a fault, a status or a word of RAPID
+{COMMAND} --help          lists all words
 """
+# What the help ends with.
+OF_CHECKOUT = (
+    "Until ./rapid_cell build has proved and built the program, an unproved one answers. It is made in a minute or two.",
+    f"A first cell is {FIRST_CELL}. To read: README.md, docs/CELL_SCRIPT.md and docs/LANGUAGE.md.",
+)
+OF_INSTALLED = (
+    f"A first cell is {FIRST_CELL}.",
+    f"To read, in {TOP}: README.md, docs/CELL_SCRIPT.md and docs/LANGUAGE.md.",
+)
 # The column of what a word does.
 COLUMN = 36
 
@@ -74,15 +91,11 @@ COLUMN = 36
 def help_page() -> str:
     lines = ["rapid_cell checks and runs cells of robots programmed in RAPID.", ""]
     for it in ACTIONS:
-        lines += help_lines(f"./rapid_cell {it.name} {it.takes}", it.does)
+        lines += help_lines(f"{COMMAND} {it.name} {it.takes}", it.does)
     lines += ["", "Options, anywhere among the words:", ""]
     for option in OPTIONS:
         lines += help_lines(option.name, option.does)
-    lines += [
-        "",
-        "Until ./rapid_cell build has proved and built the program, an unproved one answers. It is made in a minute or two.",
-        "A first cell is examples/first_move/cell.toml. To read: README.md, docs/CELL_SCRIPT.md and docs/LANGUAGE.md.",
-    ]
+    lines += ["", *(OF_INSTALLED if IS_INSTALLED else OF_CHECKOUT)]
     return "".join(f"{line}\n" for line in lines)
 
 

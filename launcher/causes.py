@@ -5,6 +5,7 @@ from pathlib import Path
 from typing import List, Mapping, Optional
 
 from . import form_causes, name_causes, script_causes, tables
+from .places import COMMAND
 from .refusals import Refusal
 from .texts import Cell, Module
 from .view import View, view
@@ -39,7 +40,7 @@ def of_module(refusal: Refusal, cell: Cell, module: Module, text: bytes, changed
         notes[:0] = [cause]
     if row and not (own and own.is_enough):
         notes.append(f"write instead: {row.get('Write instead')}")
-    notes.append(f"see ./rapid_cell explain {refusal.rule}")
+    notes.append(f"see {COMMAND} explain {refusal.rule}")
     return Cause(seen.at, length_of(refusal.rule, seen), label, notes)
 
 

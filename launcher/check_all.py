@@ -4,13 +4,14 @@ from typing import List
 
 from . import faults, program, refusals, shown
 from .abb import recognized
+from .places import COMMAND
 from .program import Program
 from .refusals import Kind
 from .say import is_coloured, put_err, put_out, say, show
 from .texts import read_cell
 
 # The last line below an error that is shown by itself.
-SEE = " see ./rapid_cell explain "
+SEE = f" see {COMMAND} explain "
 
 
 def check_all(found: Program, words: List[bytes], script: Path, is_plain: bool) -> int:
@@ -44,7 +45,7 @@ def summarize(told: faults.Found) -> None:
     if count > 1:
         say(f"{count} errors; those after the first were found in a copy without the earlier ones")
     if count:
-        say("./rapid_cell explain RULE shows a rule's cause, and an example")
+        say(f"{COMMAND} explain RULE shows a rule's cause, and an example")
     if told.unchecked:
         say(f"{told.unchecked} more places depend on what was left out, and were not checked: check again after correcting these")
     for it in told.ended:

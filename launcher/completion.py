@@ -1,20 +1,19 @@
 """Completion for the shell: actions, options, scripts, and the words that `explain` knows."""
-from .actions import ACTIONS, OPTIONS
+from .actions import ACTIONS, OPTIONS, Option
 from .explain import known_words
+from .places import COMMAND
 
-SHELLS = ("bash", "zsh")
-# The options that a file's name follows.
-TAKE_FILE = ("-o", "--places", "--joints", "--add", "--cross")
+SHELLS = ("bash", "zsh", "fish")
 
 BASH = """\
-# Completion of rapid_cell for bash: source <(./rapid_cell completion bash)
+# Completion of rapid_cell for bash: source <({command} completion bash)
 _rapid_cell() {{
     local word=${{COMP_WORDS[COMP_CWORD]}} action= it
     for it in "${{COMP_WORDS[@]:1:COMP_CWORD-1}}"; do
         case $it in -*) ;; *) action=$it; break ;; esac
     done
     COMPREPLY=()
-    if [[ " {takes_file} " == *" ${{COMP_WORDS[COMP_CWORD-1]}} "* ]]; then
+    if [[ ${{COMP_WORDS[COMP_CWORD-1]}} == @({takes_name}) ]]; then
         COMPREPLY=($(compgen -f -- "$word"))
         return
     fi
@@ -45,13 +44,13 @@ complete -F _rapid_cell rapid_cell
 
 ZSH = """\
 #compdef rapid_cell
-# Completion of rapid_cell for zsh: source <(./rapid_cell completion zsh)
+# Completion of rapid_cell for zsh: source <({command} completion zsh)
 _rapid_cell() {{
     local action= it
     for it in "${{(@)words[2,CURRENT-1]}}"; do
         case $it in -*) ;; *) action=$it; break ;; esac
     done
-    if [[ " {takes_file} " == *" ${{words[CURRENT-1]}} "* ]]; then
+    if [[ ${{words[CURRENT-1]}} == ({takes_name}) ]]; then
         _files
         return
     fi
@@ -68,19 +67,50 @@ _rapid_cell() {{
     completion) compadd -- {shells} ;;
     esac
 }}
-compdef _rapid_cell rapid_cell
+# As a file that zsh loads by its name, this is called at once.
+if [[ $funcstack[1] == _rapid_cell ]]; then
+    _rapid_cell "$@"
+else
+    compdef _rapid_cell rapid_cell
+fi
+"""
+
+FISH = """\
+# Completion of rapid_cell for fish: {command} completion fish | source
+complete -c rapid_cell -f
+complete -c rapid_cell -n 'not __fish_seen_subcommand_from {actions}' -a '{actions}'
+complete -c rapid_cell -n '__fish_seen_subcommand_from {fish_cell}' -a '(__fish_complete_suffix .toml)'
+complete -c rapid_cell -n '__fish_seen_subcommand_from {fish_history}' -F
+complete -c rapid_cell -n '__fish_seen_subcommand_from {fish_folders}' -a '(__fish_complete_directories)'
+complete -c rapid_cell -n '__fish_seen_subcommand_from explain' -a '{words}'
+complete -c rapid_cell -n '__fish_seen_subcommand_from completion' -a '{shells}'
+{fish_options}
 """
 
 
-def script(shell: str) -> str:
+def script(shell: str, command: str = COMMAND) -> str:
     """The completion for a shell, as its own language has it."""
-    return (BASH if shell == "bash" else ZSH).format(
+    cell = [it.name for it in ACTIONS if it.takes in ("CELL", "CELL..")]
+    history = [it.name for it in ACTIONS if it.takes in ("CELL HISTORY", "RECORD")]
+    return {"bash": BASH, "zsh": ZSH, "fish": FISH}[shell].format(
+        command=command,
         options=" ".join([it.name for it in OPTIONS] + ["--help", "--version"]),
         actions=" ".join(it.name for it in ACTIONS),
-        takes_cell="|".join(it.name for it in ACTIONS if it.takes in ("CELL", "CELL..")),
-        takes_history="|".join(it.name for it in ACTIONS if it.takes == "CELL HISTORY"),
+        takes_cell="|".join(cell),
+        takes_history="|".join(history),
+        takes_name="|".join(it.name for it in OPTIONS if it.takes),
         takes_folders="|".join(it.name for it in ACTIONS if it.takes == "BACKUP OUT"),
-        takes_file=" ".join(TAKE_FILE),
+        fish_folders=" ".join(it.name for it in ACTIONS if it.takes == "BACKUP OUT"),
         words=" ".join(known_words()),
         shells=" ".join(SHELLS),
+        fish_cell=" ".join(cell),
+        fish_history=" ".join(history),
+        fish_options="\n".join(fish_option(it) for it in OPTIONS),
     )
+
+
+def fish_option(option: Option) -> str:
+    """The line of an option: a letter or a word, and files after one that takes a name."""
+    name = f"-l {option.name[2:]}" if option.name.startswith("--") else f"-s {option.name[1:]}"
+    does = option.does.replace("\\", "\\\\").replace("'", "\\'").replace("\n", " ")
+    return f"complete -c rapid_cell {name}{' -r -F' if option.takes else ''} -d '{does}'"

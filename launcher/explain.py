@@ -5,6 +5,7 @@ import re
 from typing import Dict, Iterator, List, Sequence, Set, Tuple
 
 from . import actions, manual, names, reserved
+from .places import COMMAND
 from .say import put_out, wrong
 from .tables import Row, codes, plain, rows
 from .tokens import RESERVED
@@ -20,7 +21,7 @@ COMMON = frozenset(
 # How the answer of a row begins that only says that its names are not supported.
 OUTSIDE = "nothing: they are"
 OWN_ERROR = "a number of your own: `RAISE {0};` raises it, ERRNO in an ERROR part has it, and the language itself never raises it"
-HELP = "./rapid_cell --help"
+HELP = f"{COMMAND} --help"
 LEFT = "`E TASK Fault Unhandled {0}`, if no ERROR part handles it"
 
 

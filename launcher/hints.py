@@ -7,6 +7,7 @@ from typing import Iterable, List, Optional, Sequence
 
 from . import actions
 from .abb.recognized import is_backup
+from .places import COMMAND, FIRST_CELL
 from .refusals import Kind, Refusal
 from .say import HINT
 from .texts import LONGEST_HISTORY, LONGEST_MODULE, LONGEST_SCRIPT, Cell
@@ -47,17 +48,17 @@ def missing(words: Sequence[str]) -> List[str]:
         return ["an action is missing, such as check"]
     action = next((it for it in actions.ACTIONS if it.name == others[0]), None)
     if action and action.takes == "N":
-        return [f"{action.name} takes a number: ./rapid_cell {action.name} 10"]
+        return [f"{action.name} takes a number: {COMMAND} {action.name} 10"]
     if action and action.takes == "CELL HISTORY" and len(others) == 2:
-        return [f"{action.name} takes a history after the script: ./rapid_cell {action.name} {others[1]} history.txt"]
+        return [f"{action.name} takes a history after the script: {COMMAND} {action.name} {others[1]} history.txt"]
     here = sorted(it.name for it in Path().glob("*.toml"))
-    example = here[0] if here else "examples/first_move/cell.toml"
-    return [f"{others[0]} takes the script of a cell: ./rapid_cell {others[0]} {example}"]
+    example = here[0] if here else FIRST_CELL
+    return [f"{others[0]} takes the script of a cell: {COMMAND} {others[0]} {example}"]
 
 
 def unknown_action(word: str, given: bytes) -> List[str]:
     if given.endswith(b".toml") or os.path.isfile(given):
-        return [f"an action comes before the script: ./rapid_cell check {word}"]
+        return [f"an action comes before the script: {COMMAND} check {word}"]
     if actions.is_programs_action(given):
         return [f"this program does not have the action {word} yet: ./rapid_cell build rebuilds it"]
     return [f"there is no action {word}{meant(word, [it.name for it in actions.ACTIONS])}"]

@@ -5,12 +5,13 @@ from typing import Any, Dict, List, Mapping, Optional, Tuple
 
 from . import causes, hints, toml_faults, toml_places
 from .lsp_text import Range, Text
+from .places import COMMAND
 from .refusals import Kind, Refusal
 from .texts import Cell, read
 
 ERROR = 1
 # The last note of a refusal says where more of it is; an editor shows that when it hovers.
-SEE = "see ./rapid_cell explain"
+SEE = f"see {COMMAND} explain"
 
 
 @dataclass(frozen=True)

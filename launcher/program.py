@@ -10,7 +10,7 @@ from typing import Callable, Dict, Iterator, Optional, Sequence, Union
 
 from . import kept
 from .child import started
-from .places import PROGRAM
+from .places import FETCH, IS_INSTALLED, PROGRAM
 from .say import NO_PROGRAM, put_err, say
 
 Word = Union[str, bytes, Path]
@@ -37,13 +37,13 @@ class Answer:
 
 
 def proved() -> Optional[Program]:
-    """The program that `build` made, if it did."""
+    """The program that `build` made, or that was installed, if it is there."""
     return Program(PROGRAM, True) if PROGRAM.is_file() else None
 
 
 def unproved() -> Optional[Program]:
     """The unproved program that is kept for the sources as they stand, if it is."""
-    file = kept.find()
+    file = None if IS_INSTALLED else kept.find()
     return Program(file, False) if file else None
 
 
@@ -130,6 +130,6 @@ def end_child(child: "subprocess.Popen[bytes]", ended: BaseException) -> None:
 
 
 def does_not_start(program: Program, error: OSError) -> int:
-    how = "./rapid_cell build rebuilds it" if program.is_proved else "remove it, and it is made again"
+    how = FETCH if IS_INSTALLED else "./rapid_cell build rebuilds it" if program.is_proved else "remove it, and it is made again"
     say(f"{program.file} does not start ({error.strerror}): {how}")
     return NO_PROGRAM

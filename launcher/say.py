@@ -6,15 +6,18 @@ NotPrinted.
 """
 import os
 
+from .places import COMMAND, FETCH
+
 # The status if a word is refused, and if not everything could be printed, as the program's.
 REFUSED = 2
 NOT_PRINTED = 6
-# The statuses that the program does not have: a file of the checkout or a module of Python is missing; there is no program
-# to run; somebody stopped the launcher, as shells give it.
+# The statuses that the program does not have: no proved program of these sources is there; a file of the launcher or a module of
+# Python is missing; there is no program to run; somebody stopped the launcher, as shells give it.
+NOT_PROVED = 123
 BROKEN = 124
 NO_PROGRAM = 125
 STOPPED = 130
-HINT = "./rapid_cell --help lists the words"
+HINT = f"{COMMAND} --help lists the words"
 
 
 class NotPrinted(Exception):
@@ -59,17 +62,17 @@ def wrong(text: str) -> int:
 
 
 def broken(error: Exception) -> int:
-    """Says which file of the checkout or module of Python is missing or cannot be read, and returns the status."""
+    """Says which file of the launcher or module of Python is missing or cannot be read, and returns the status."""
     file = getattr(error, "filename", None)
     name = getattr(error, "name", None) or ""
     if isinstance(error, PermissionError) and file:
         say(f"you may not read {file}: ask its owner for the right to read it")
     elif isinstance(error, FileNotFoundError) and file:
-        say(f"{file} is missing: fetch the checkout again")
+        say(f"{file} is missing: {FETCH}")
     elif isinstance(error, ModuleNotFoundError) and not name.startswith("launcher"):
         say(f"Python lacks its module {name}: install the whole standard library of Python")
     else:
-        say(f"{error}: fetch the checkout again, or ask its owner for the right to read it")
+        say(f"{error}: {FETCH}, or ask its owner for the right to read it")
     return BROKEN
 
 

@@ -3,13 +3,14 @@ import re
 from typing import Dict, List, Optional
 
 from . import actions, tables, toml_places
+from .places import COMMAND
 from .refusals import Refusal
 from .texts import Cell
 
 # The table of the keys of each array of tables.
 TABLES = {"signal": "Key of a signal", "task": "Key of a task", "pers": "Key of a persistent's value", "zone": "Key of a zone"}
 TABLES["input"] = "Key of an input"
-SEE = "see ./rapid_cell explain {0}"
+SEE = f"see {COMMAND} explain {{0}}"
 
 
 def of(refusal: Refusal, cell: Cell) -> List[str]:

@@ -1,25 +1,38 @@
-"""`--version`: the commit, the kit, and the program that answers."""
+"""`--version`: the version, the commit, the kit, and the program that answers."""
 import platform
 import shutil
 import subprocess
 import time
 from pathlib import Path
-from typing import Optional
+from typing import List, Optional
 
-from . import build, kept
-from .places import CRATES, PROGRAM, TOP
+from . import build, kept, proof, record
+from .places import CRATES, IS_INSTALLED, PROGRAM, RECORD, TOP
 
 
 def page() -> str:
-    return "".join(f"{line}\n" for line in (commit(), program(), kit(), f"python {platform.python_version()}"))
+    lines = by_record() if IS_INSTALLED else [commit(), program(), kit()]
+    return "".join(f"{line}\n" for line in (*lines, f"python {platform.python_version()}"))
+
+
+def by_record() -> List[str]:
+    """What the record of an installed program says, if the program is the one that it names."""
+    try:
+        found = record.read(RECORD)
+    except record.NoRecord as error:
+        return [f"rapid_cell {record.version()}", f"program: {RECORD} {error}: install rapid_cell again"]
+    is_same = PROGRAM.is_file() and proof.sum_of(PROGRAM) == found.once["program"]
+    said = f"proved, by the record at {RECORD}" if is_same else f"not the one of the record at {RECORD}: install rapid_cell again"
+    return [found.title, f"program: {said}", f"kit: {found.once['kit']}, by the record"]
 
 
 def commit() -> str:
+    named = f"rapid_cell {record.version()}"
     head = said_by("git", "-C", str(TOP), "log", "-1", "--format=%h of %cs")
     if not head or not (TOP / ".git").exists():
-        return "rapid_cell, commit unknown"
+        return f"{named}, commit unknown"
     is_changed = said_by("git", "-C", str(TOP), "status", "--porcelain")
-    return f"rapid_cell, commit {head}{', with changes' if is_changed else ''}"
+    return f"{named}, commit {head}{', with changes' if is_changed else ''}"
 
 
 def program() -> str:

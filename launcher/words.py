@@ -6,6 +6,7 @@ from typing import Callable, Dict, List, Optional, Sequence
 
 from . import actions, build, hints, kept, program
 from .asked import Asked, ended, found_program, helped, made_program, misplaced, taken_apart
+from .places import IS_INSTALLED
 from .program import Program
 from .run_words import OF_RUNS, listed
 from .say import (
@@ -112,6 +113,23 @@ def build_all(words: Sequence[bytes]) -> int:
     return wrong("build takes no other word") if words else build.build()
 
 
+def package(words: Sequence[bytes]) -> int:
+    from .package import package
+
+    return package(words)
+
+
+def proved(words: Sequence[bytes]) -> int:
+    if len(words) != 1:
+        return wrong("proved takes a record of a proof, PROVED")
+    if IS_INSTALLED:
+        say("proved compares a record with a checkout, and this is an installed program: --version says if it is the record's")
+        return NO_PROGRAM
+    from .record import compare
+
+    return compare(Path(os.fsdecode(words[0])))
+
+
 def completion(words: Sequence[bytes]) -> int:
     from .completion import SHELLS, script
 
@@ -149,6 +167,8 @@ OWN: Dict[bytes, Callable[[Sequence[bytes]], int]] = {
     b"version": version,
     b"explain": explain,
     b"build": build_all,
+    b"package": package,
+    b"proved": proved,
     b"completion": completion,
     b"import": import_backup,
 }

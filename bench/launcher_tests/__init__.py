@@ -13,6 +13,7 @@
     all_faults   `check --all`, on the five cells of abb/
     explained    every word that `explain` has to know
     building     building, and the unproved program that is kept, with a kit that only pretends
+    releases     the proof that `build` keeps, `proved`, and what `package` refuses; bench/release_test tries the packages
     damage       damaged or strange files, names and checkouts, and signals
     watched      `watch`
     threads      a cell whose threads the system refuses

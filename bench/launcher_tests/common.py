@@ -13,7 +13,7 @@ EXAMPLES = TOP / "examples"
 sys.path.insert(0, str(TOP))
 # The enumerations whose variants are the names that a refusal or an end can have.
 RULES = ("LexRule", "SyntaxRule", "TypeRule", "ScriptRule", "Fault", "Fate")
-STATUSES = "0 1 2 3 4 5 6 7 8 9 10 11 12 124 125 130".split()
+STATUSES = "0 1 2 3 4 5 6 7 8 9 10 11 12 123 124 125 130".split()
 failures = []
 # The options that each start of a cell has, as --unproved.
 options = []

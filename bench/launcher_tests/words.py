@@ -57,7 +57,7 @@ def try_meant():
             (("check",), "check takes the script of a cell: ./rapid_cell check examples/first_move/cell.toml"),
             (("audit", "first/cell.toml"), "audit takes a history after the script: ./rapid_cell audit first/cell.toml history.txt"),
             (("check", "my", "cell.toml"), "cell.toml is one word too many: put a name with spaces in quotes"),
-            (("completion", "fish"), "completion takes one of bash, zsh; ./rapid_cell --help lists the words"),
+            (("completion", "ksh"), "completion takes one of bash, zsh, fish; ./rapid_cell --help lists the words"),
             (("build", "x"), "build takes no other word; ./rapid_cell --help lists the words"),
             (("--all", "round", "first/cell.toml"), "--all goes with check; ./rapid_cell --help lists the words"),
         ):
@@ -71,7 +71,7 @@ def try_help():
     for words in (("-h",), ("help",), ("check", "--help"), ("build", "-h")):
         compare(f"help by {words}", ask(*words), page)
     compare("help has no line too long", max(map(len, page[1].splitlines())) <= 130, True)
-    for name in ("check", "round", "run", "list", "load", "audit", "state", "clearance", "trace", "migrate", "table", "show", "why", "cover", "explain", "build", "watch", "lsp", "completion", "--history", "--all", "--run", "--source", "--lcov", "-o", "--plain", "--proved"):
+    for name in ("check", "round", "run", "list", "load", "audit", "state", "clearance", "trace", "migrate", "table", "show", "why", "cover", "explain", "build", "package", "proved", "watch", "lsp", "completion", "--history", "--all", "--run", "--source", "--lcov", "-o", "--gate", "--plain", "--proved"):
         compare(f"help has {name}", name in page[1], True)
     status, out, err = ask()
     compare("no word", (status, out, err.startswith("rapid_cell: words 0\n"), "./rapid_cell check CELL" in err), (2, "", True, True))
@@ -80,7 +80,7 @@ def try_help():
 def try_version():
     page = launch("--version")
     heads = [line.split()[0] for line in page[1].splitlines()]
-    compare("--version", (page[0], heads, page[2]), (0, ["rapid_cell,", "program:", "kit:", "python"], ""))
+    compare("--version", (page[0], heads, page[2]), (0, ["rapid_cell", "program:", "kit:", "python"], ""))
     for words in (("-V",), ("version",)):
         compare(f"version by {words}", ask(*words), page)
     compare("version, proved or not", bool(re.search(r"^program: (proved|not proved|not built)", page[1], re.M)), True)
@@ -121,6 +121,7 @@ def try_completion():
         (["--pl"], "--plain"),
         (["check", f"{EXAMPLES}/first_move/"], str(FIRST)),
         (["completion", "z"], "zsh"),
+        (["package", "--gate", f"{EXAMPLES}/first_move/ce"], str(FIRST)),
         (["cover", str(FIRST), f"{EXAMPLES}/first_move/"], str(FIRST)),
         (["show", "-o", f"{EXAMPLES}/first_move/first"], f"{EXAMPLES}/first_move/first_move.mod"),
         (["--all", "check", f"{EXAMPLES}/first_move/ce"], str(FIRST)),
@@ -136,6 +137,12 @@ def try_completion():
         compare("zsh takes the completion", (text_of(ran.stdout).split(), ran.stderr), (["_rapid_cell", "_rapid_cell"], b""))
     except FileNotFoundError:
         print("zsh is not here: its completion is not tried")
+    try:
+        lines = f"{LAUNCHER} completion fish | source; complete -C 'rapid_cell che'; complete -C 'rapid_cell --gat'"
+        ran = subprocess.run(["fish", "--no-config", "-c", lines], stdout=subprocess.PIPE, stderr=subprocess.PIPE)
+        compare("fish completes", (text_of(ran.stdout).split()[:2], ran.stderr), (["check", "--gate"], b""))
+    except FileNotFoundError:
+        print("fish is not here: its completion is not tried")
 
 
 def try_files():

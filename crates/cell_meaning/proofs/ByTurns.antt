@@ -1,5 +1,5 @@
--- A round-robin run is legal and complete, and there is at most one.
-use Rattle.std.proofs.Common.{◌≡◌, ℕ, zero, suc, ◌+◌, ◌-◌, ◌≤◌, ◌<◌, List, [], ◌∷◌, ◌++◌, length, ap, inl, inr, sym, ◌∙◌, subst, arith, length-append, zero-add}
+-- Turns and rounds: they keep a history legal, and each has one result.
+use Rattle.std.proofs.Common.{◌≡◌, ℕ, zero, suc, ◌+◌, ◌≤◌, ◌<◌, List, [], ◌∷◌, ◌++◌, length, ap, inl, inr, sym, ◌∙◌, subst, arith, length-append}
 use Rattle.std.specs.Prelude.{IsTrue}
 use Rattle.std.proofs.lemmas.Bool.{cases_lt}
 use Rattle.rapid_model.specs.CellData.{CellData, IsCell}
@@ -8,9 +8,9 @@ use Rattle.rapid_model.specs.declared.event.Event.{Event}
 use Rattle.rapid_model.specs.declared.request.Request.{Request}
 use Rattle.cell_meaning.specs.Answers.{IsAnswer}
 use Rattle.cell_meaning.specs.Asking.{Asking}
-use Rattle.cell_meaning.specs.Histories.{Follows, is_fit, IsLegal, IsWhole}
-use Rattle.cell_meaning.specs.Premises.{OnlyActorsAsk, AsksOne, AsksWhatItMay, AllAnswered, StartsFull}
-use Rattle.cell_meaning.specs.Turns.{TakesTurn, TakeTurns, IsRound, AfterRounds, IsByTurns}
+use Rattle.cell_meaning.specs.Histories.{Follows, is_fit, IsLegal}
+use Rattle.cell_meaning.specs.Premises.{AsksOne, AsksWhatItMay, AllAnswered, StartsFull}
+use Rattle.cell_meaning.specs.Turns.{TakesTurn, TakeTurns, IsRound}
 use Rattle.rapid_model.proofs.Cuts.{cut_none, cut_more, cut_before}
 use Rattle.cell_meaning.proofs.FitAnswers.{answer_fits}
 use Rattle.cell_meaning.proofs.OneAnswer.{one_answer}
@@ -32,10 +32,10 @@ pub legal_none : (asks : Asking) (cell : CellData) → IsLegal asks cell []
 legal_none asks cell = record { at = cut_none (λ before e. Follows asks cell before e); fits = cut_none (λ before e. IsTrue (is_fit cell before e)) }
 
 -- what those who ask must satisfy for a run to be legal
-record Keeping (asks : Asking) (cell : CellData) : Type 0 where
-  limits : IsCell cell
-  full : StartsFull cell
-  may : AsksWhatItMay asks cell
+pub record Keeping (asks : Asking) (cell : CellData) : Type 0 where
+  pub limits : IsCell cell
+  pub full : StartsFull cell
+  pub may : AsksWhatItMay asks cell
 
 -- one more event that follows
 legal_more : (asks : Asking) (cell : CellData) (history : List Event) (e : Event) → Keeping asks cell → IsLegal asks cell history → Follows asks cell history e
@@ -48,7 +48,7 @@ legal_more asks cell history e keeping legal follows =
       fits = cut_more (λ before x. IsTrue (is_fit cell before x)) history e legal.fits fit;
     }
 
-legal_turn : (asks : Asking) (cell : CellData) (actor : ℕ) (before after : List Event) → Keeping asks cell → IsLegal asks cell before → TakesTurn asks cell actor before after → IsLegal asks cell after
+pub legal_turn : (asks : Asking) (cell : CellData) (actor : ℕ) (before after : List Event) → Keeping asks cell → IsLegal asks cell before → TakesTurn asks cell actor before after → IsLegal asks cell after
 legal_turn asks cell actor before after keeping legal (inl s) =
     subst (λ (h : List Event). IsLegal asks cell h) (sym s.added) (legal_more asks cell before s.event keeping legal s.follows)
 legal_turn asks cell actor before after keeping legal (inr r) = subst (λ (h : List Event). IsLegal asks cell h) (sym r.same) legal
@@ -60,19 +60,9 @@ legal_turns asks cell actor zero before after keeping legal same = subst (λ (h 
 legal_turns asks cell actor (suc left) before after keeping legal t =
     legal_turns asks cell (actor + 1) left t.0 after keeping (legal_turn asks cell actor before t.0 keeping legal t.1) t.2
 
-legal_round : (asks : Asking) (cell : CellData) (before after : List Event) → Keeping asks cell → IsLegal asks cell before → IsRound asks cell before after → IsLegal asks cell after
+pub legal_round : (asks : Asking) (cell : CellData) (before after : List Event) → Keeping asks cell → IsLegal asks cell before → IsRound asks cell before after → IsLegal asks cell after
 legal_round asks cell before after keeping legal (between, turns, last) =
     legal_turn asks cell (length cell.tasks) between after keeping (legal_turns asks cell 0 (length cell.tasks) before between keeping legal turns) last
-
-legal_rounds : (asks : Asking) (cell : CellData) (rounds : ℕ) (history : List Event) → Keeping asks cell → AfterRounds asks cell rounds history → IsLegal asks cell history
-unfolding AfterRounds
-legal_rounds asks cell zero history keeping none = subst (λ (h : List Event). IsLegal asks cell h) (sym none) (legal_none asks cell)
-legal_rounds asks cell (suc rounds) history keeping made =
-    legal_round asks cell made.0 history keeping (legal_rounds asks cell rounds made.0 keeping made.1) made.2
-
-pub by_turns_legal : (asks : Asking) (cell : CellData) (history : List Event) → IsCell cell → StartsFull cell → AsksWhatItMay asks cell → IsByTurns asks cell history
-    → IsLegal asks cell history
-by_turns_legal asks cell history limits full may run = legal_rounds asks cell run.rounds history (record { limits = limits; full = full; may = may }) run.made
 
 -- a turn never makes a history shorter
 pub turn_grows : (asks : Asking) (cell : CellData) (actor : ℕ) (before after : List Event) → TakesTurn asks cell actor before after → length before ≤ length after
@@ -125,7 +115,7 @@ turns_same asks cell actor (suc left) before after t short =
     turns_same asks cell (actor + 1) left t.0 after t.2 (omega arith) ∙ turn_same asks cell actor before t.0 t.1 (omega arith)
 
 -- if a round adds nothing, no event of any actor follows
-round_rests : (asks : Asking) (cell : CellData) (history : List Event) (e : Event) → IsRound asks cell history history → e.actor ≤ length cell.tasks → Follows asks cell history e → ⊥
+pub round_rests : (asks : Asking) (cell : CellData) (history : List Event) (e : Event) → IsRound asks cell history history → e.actor ≤ length cell.tasks → Follows asks cell history e → ⊥
 round_rests asks cell history e (between, turns, last) low follows =
     let turns_longer : length history ≤ length between = turns_grow asks cell 0 (length cell.tasks) history between turns in
     let last_longer : length between ≤ length history = turn_grows asks cell (length cell.tasks) between history last in
@@ -134,11 +124,6 @@ round_rests asks cell history e (between, turns, last) low follows =
       | inl lt ↦ turns_rest asks cell 0 (length cell.tasks) history between turns last_longer e (omega arith) (omega arith) follows
       | inr ge ↦ still_rests asks cell (length cell.tasks) between history last turns_longer e ge (subst (λ (h : List Event). Follows asks cell h e) (sym same) follows) (λ lt f. absurd (omega arith))
     ]
-
-pub by_turns_whole : (asks : Asking) (cell : CellData) (history : List Event) → OnlyActorsAsk asks cell → IsByTurns asks cell history → IsWhole asks cell history
-by_turns_whole asks cell history only run = record {
-  over = λ e follows. round_rests asks cell history e run.over (only.within e.actor _ e.request follows.asked) follows;
-}
 
 -- so at most one event of each actor follows
 one_follows : (asks : Asking) (cell : CellData) (before : List Event) (actor : ℕ) (r r' : Request) (x x' : Answer) → AsksOne asks
@@ -157,7 +142,7 @@ one_event asks cell before e e' ones by f f' =
     ∙ ap (λ (a : Answer). let x : Event = record { actor = e.actor; request = e'.request; answer = a } in x) both.1
     ∙ sym is
 
-one_turn : (asks : Asking) (cell : CellData) (actor : ℕ) (before after other : List Event) → AsksOne asks → TakesTurn asks cell actor before after → TakesTurn asks cell actor before other → after ≡ other
+pub one_turn : (asks : Asking) (cell : CellData) (actor : ℕ) (before after other : List Event) → AsksOne asks → TakesTurn asks cell actor before after → TakesTurn asks cell actor before other → after ≡ other
 one_turn asks cell actor before after other ones (inl s) (inl t) =
     s.added ∙ ap (λ (e : Event). before ++ e ∷ []) (one_event asks cell before s.event t.event ones (t.by ∙ sym s.by) s.follows t.follows) ∙ sym t.added
 one_turn asks cell actor before after other ones (inl s) (inr r) = absurd (r.none s.event s.by s.follows)
@@ -171,37 +156,7 @@ one_turns asks cell actor (suc left) before after other ones t u =
     let same : t.0 ≡ u.0 = one_turn asks cell actor before t.0 u.0 ones t.1 u.1 in
     one_turns asks cell (actor + 1) left t.0 after other ones t.2 (subst (λ (h : List Event). TakeTurns asks cell (actor + 1) left h other) (sym same) u.2)
 
-one_round : (asks : Asking) (cell : CellData) (before after other : List Event) → AsksOne asks → IsRound asks cell before after → IsRound asks cell before other → after ≡ other
+pub one_round : (asks : Asking) (cell : CellData) (before after other : List Event) → AsksOne asks → IsRound asks cell before after → IsRound asks cell before other → after ≡ other
 one_round asks cell before after other ones t u =
     let same : t.0 ≡ u.0 = one_turns asks cell 0 (length cell.tasks) before t.0 u.0 ones t.1 u.1 in
     one_turn asks cell (length cell.tasks) t.0 after other ones t.2 (subst (λ (h : List Event). TakesTurn asks cell (length cell.tasks) h other) (sym same) u.2)
-
-one_after : (asks : Asking) (cell : CellData) (rounds : ℕ) (history other : List Event) → AsksOne asks → AfterRounds asks cell rounds history → AfterRounds asks cell rounds other → history ≡ other
-unfolding AfterRounds
-one_after asks cell zero history other ones t u = t ∙ sym u
-one_after asks cell (suc rounds) history other ones t u =
-    let same : t.0 ≡ u.0 = one_after asks cell rounds t.0 u.0 ones t.1 u.1 in
-    one_round asks cell t.0 history other ones t.2 (subst (λ (h : List Event). IsRound asks cell h other) (sym same) u.2)
-
--- after a round that adds nothing, more rounds change nothing
-stays : (asks : Asking) (cell : CellData) (more rounds : ℕ) (history later : List Event) → AsksOne asks → AfterRounds asks cell rounds history → IsRound asks cell history history
-    → AfterRounds asks cell (more + rounds) later → later ≡ history
-unfolding AfterRounds
-stays asks cell zero rounds history later ones made over other = one_after asks cell rounds later history ones (subst (λ (n : ℕ). AfterRounds asks cell n later) (zero-add rounds) other) made
-stays asks cell (suc more) rounds history later ones made over other =
-    let count : suc more + rounds ≡ suc (more + rounds) = omega arith in
-    let goes : AfterRounds asks cell (suc (more + rounds)) later = subst (λ (n : ℕ). AfterRounds asks cell n later) count other in
-    let before : goes.0 ≡ history = stays asks cell more rounds history goes.0 ones made over goes.1 in
-    one_round asks cell history later history ones (subst (λ (h : List Event). IsRound asks cell h later) before goes.2) over
-
-at_most_as_long : (asks : Asking) (cell : CellData) (history other : List Event) → AsksOne asks → (run : IsByTurns asks cell history) (that : IsByTurns asks cell other) → run.rounds ≤ that.rounds → other ≡ history
-at_most_as_long asks cell history other ones run that le =
-    stays asks cell (that.rounds - run.rounds) run.rounds history other ones run.made run.over
-    (let n : that.rounds ≡ (that.rounds - run.rounds) + run.rounds = omega arith in subst (λ (k : ℕ). AfterRounds asks cell k other) n that.made)
-
-pub by_turns_one : (asks : Asking) (cell : CellData) (history other : List Event) → AsksOne asks → IsByTurns asks cell history → IsByTurns asks cell other → history ≡ other
-by_turns_one asks cell history other ones run that =
-    elim (cases_lt run.rounds that.rounds) [
-      | inl lt ↦ sym (at_most_as_long asks cell history other ones run that (omega arith))
-      | inr ge ↦ at_most_as_long asks cell other history ones that run ge
-    ]

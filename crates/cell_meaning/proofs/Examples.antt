@@ -1,5 +1,5 @@
 -- The definitions on worked examples: stored values, changes, arms and fates.
-use Rattle.std.proofs.Common.{◌≡◌, true, false, List, [], ◌∷◌, refl}
+use Rattle.std.proofs.Common.{◌≡◌, true, false, List, [], ◌∷◌, ◌++◌, refl}
 use Rattle.std.specs.Prelude.{pos}
 use Rattle.rapid_model.specs.declared.answer.Answer.TheVariants as answers
 use Rattle.rapid_model.specs.declared.event.Event.{Event}
@@ -74,3 +74,20 @@ spent = refl
 
 one_is_cut : fates_after cell four 2 ≡ fates.Exit ∷ fates.Cut ∷ []
 one_is_cut = refl
+
+-- where the last task ends after the last step, the run is not spent
+abbrev ended_last : List Event
+ended_last = four ++ event 1 (requests.End fates.Done) answers.Ok ∷ []
+
+not_spent : is_spent cell ended_last ≡ false
+not_spent = refl
+
+both_ended : fates_after cell ended_last 2 ≡ fates.Exit ∷ fates.Done ∷ []
+both_ended = refl
+
+-- a held task is Cut if no step is left, and Held if one is
+held_is_cut : fates_after cell (cleared ∷ cleared ∷ cleared ∷ event 0 (requests.Hold 3) answers.Ok ∷ []) 1 ≡ fates.Cut ∷ []
+held_is_cut = refl
+
+held_is_held : fates_after cell (cleared ∷ cleared ∷ event 0 (requests.Hold 2) answers.Ok ∷ []) 1 ≡ fates.Held ∷ []
+held_is_held = refl

@@ -64,7 +64,7 @@ off_sets_none at None = refl
 off_sets_none at (Some z) = refl
 
 -- what an event sets agrees with what a zone sets, if the arm of its task is where the zone's is
-agree_where : (signal : ℕ) (value : Bool) (outputs : Joints → List (ℕ × Bool)) (arm : Option Joints) → ((p : Joints) → arm ≡ Some p → Agree signal value (outputs p)) → Agree signal value (where_arm outputs arm)
+pub agree_where : (signal : ℕ) (value : Bool) (outputs : Joints → List (ℕ × Bool)) (arm : Option Joints) → ((p : Joints) → arm ≡ Some p → Agree signal value (outputs p)) → Agree signal value (where_arm outputs arm)
 agree_where signal value outputs None each = tt
 agree_where signal value outputs (Some p) each = each p refl
 

@@ -1,13 +1,15 @@
 -- Interrupts on worked examples.
 use Rattle.std.proofs.Common.{◌≡◌, true, false, List, [], ◌∷◌, ◌++◌, refl}
+use Rattle.std.specs.Prelude.{pos}
 use Rattle.rapid_model.specs.declared.answer.Answer.{Answer}
 use Rattle.rapid_model.specs.declared.answer.Answer.TheVariants as answers
 use Rattle.rapid_model.specs.declared.event.Event.{Event}
 use Rattle.rapid_model.specs.declared.request.Request.{Request}
 use Rattle.rapid_model.specs.declared.request.Request.TheVariants as requests
+use Rattle.rapid_model.specs.declared.value.Value.TheVariants as values
 use Rattle.rapid_model.specs.declared.watched.Watched.TheVariants as watched
 use Rattle.cell_meaning.specs.Answers.{answer_after}
-use Rattle.cell_meaning.proofs.ExampleCell.{cell, cleared, written}
+use Rattle.cell_meaning.proofs.ExampleCell.{cell, second, cleared, written}
 use Rattle.cell_meaning.proofs.MoreEvents.{event}
 
 -- what the cell answers to task A
@@ -74,3 +76,27 @@ deleted = refl
 
 persistent_fires : to_a (connected ∷ event 0 (requests.Order 1 (watched.Pers 0) false) answers.Ok ∷ written ∷ []) requests.Look ≡ answers.Trap 1 7
 persistent_fires = refl
+
+-- what fired before it is disabled waits, and so does what fired before it sleeps
+queued_first : to_a (both ++ cleared ∷ event 0 requests.Disable answers.Ok ∷ event 0 requests.Enable answers.Ok ∷ []) requests.Look ≡ answers.Trap 1 7
+queued_first = refl
+
+still_queued : to_a (both ++ cleared ∷ event 0 (requests.Sleep 1) answers.Ok ∷ []) requests.Look ≡ answers.Trap 1 7
+still_queued = refl
+
+-- the least free number, not the one after the greatest
+abbrev three : List Event
+three = connected ∷ event 0 (requests.Connect 0 8) (answers.Number 2) ∷ event 0 (requests.Connect 0 9) (answers.Number 3) ∷ []
+
+least_number : to_a (three ++ event 0 (requests.Delete 2) answers.Ok ∷ []) (requests.Connect 0 10) ≡ answers.Number 2
+least_number = refl
+
+-- the end of a trap that disabled interrupts enables none
+abbrev twice : List Event
+twice = connected ∷ event 0 (requests.Order 1 (watched.Pers 0) false) answers.Ok ∷ written ∷ event 0 requests.Look (answers.Trap 1 7) ∷ event 1 (requests.WriteP 0 second (values.Num (pos 4000))) answers.Ok ∷ []
+
+trap_ended : to_a (twice ++ event 0 requests.Leave answers.Ok ∷ []) requests.Look ≡ answers.Trap 1 7
+trap_ended = refl
+
+disabled_in_trap : to_a (twice ++ event 0 requests.Disable answers.Ok ∷ event 0 requests.Leave answers.Ok ∷ []) requests.Look ≡ answers.Go 2
+disabled_in_trap = refl

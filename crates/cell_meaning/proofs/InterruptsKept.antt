@@ -365,7 +365,7 @@ asked_kept cell history e task may is kept within = elim (cases_eq task e.actor)
         (subst (λ (mine : List Event). KeptTask mine (task_at (asked_with (interrupts_after cell history) e.actor e.request e.answer) e.actor)) (sym (part_of-own e.actor history e refl))
         (subst (λ (u : TaskData). KeptTask (part_of e.actor history ++ e ∷ []) u) (sym there) now))
 
-asked_count : (tasks : List TaskData) (actor : ℕ) (request : Request) (answer : Answer) → length (asked_with tasks actor request answer) ≡ length tasks
+pub asked_count : (tasks : List TaskData) (actor : ℕ) (request : Request) (answer : Answer) → length (asked_with tasks actor request answer) ≡ length tasks
 asked_count tasks actor request answer = ap length (asked_own tasks actor request answer) ∙ length-set tasks actor (own_with (task_at tasks actor) request answer)
 
 pub tasks_kept_more : (cell : CellData) (history : List Event) (e : Event) → TaskMay cell e.actor (part_of e.actor history) e.request ⊎ ScriptMay cell e.actor (part_of e.actor history) e.request

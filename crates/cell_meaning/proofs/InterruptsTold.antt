@@ -17,7 +17,7 @@ use Rattle.trap_dispatch.specs.declared.connect_fault.ConnectFault.TheVariants a
 use Rattle.trap_dispatch.specs.declared.connected.Connected.{Connected}
 use Rattle.trap_dispatch.specs.declared.order.Order.{Order}
 use Rattle.trap_dispatch.specs.Firing.{after_firing, after_its_firing, connected_at, fires, is_change, is_on}
-use Rattle.trap_dispatch.specs.Tasks.{TaskData, after_changes, before_all, connect_answer, fresh, in_first_trap, least_free, ordered, slept, with_order, with_sleep}
+use Rattle.trap_dispatch.specs.Tasks.{TaskData, after_changes, before_all, connect_answer, fresh, in_first_trap, least_free, slept, with_order, with_sleep}
 use Rattle.trap_dispatch.specs.Traps.{task_at}
 use Rattle.cell_meaning.specs.Answers.{IsAnswer, known_of, number_of, order_of}
 use Rattle.cell_meaning.specs.Changes.{changes_of}
@@ -217,13 +217,13 @@ is_free (Some c) e = by c.order refl e
     by None is h = (c, refl, is)
     by (Some o) is h = absurd cc
 
-number_is : (r : Result ℕ ConnectFault) (k : ℕ) → answers.Number k ≡ number_of r → r ≡ Ok k
+pub number_is : (r : Result ℕ ConnectFault) (k : ℕ) → answers.Number k ≡ number_of r → r ≡ Ok k
 number_is (Ok n) k e = let same : k ≡ n = cc in ap (λ (m : ℕ). Ok m) (sym same)
 number_is (Err connect_faults.Already) k e = absurd cc
 number_is (Err connect_faults.NoMore) k e = absurd cc
 
 -- the number that is given was free
-was_free : (t : TaskData) (old k : ℕ) → connect_answer t old ≡ Ok k → connected_at t.numbers k ≡ None
+pub was_free : (t : TaskData) (old k : ℕ) → connect_answer t old ≡ Ok k → connected_at t.numbers k ≡ None
 was_free t old k e = by (is_some (connected_at t.numbers old)) e
   where
     least : (index : Option ℕ) → position_from is_none 0 t.numbers ≡ index → least_free index ≡ Ok k → connected_at t.numbers k ≡ None

@@ -15,6 +15,7 @@ pub mod PartChanges
 pub mod MoreFirings
 pub mod BoardsTell
 pub mod ByTurns
+pub mod Orders
 pub mod Ending
 pub mod Fates
 pub mod Same
@@ -35,3 +36,8 @@ pub mod ZonesTold
 pub mod Ties
 pub mod Follow
 mod InterruptsTold
+mod InterruptsStay
+mod SignalsKept
+mod WrittenStay
+mod LastOfRound
+mod OrderExamples

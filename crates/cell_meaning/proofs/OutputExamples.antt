@@ -88,3 +88,17 @@ not_tied_twice = refl
 -- until the zone is freed
 freed : to_b (tied ++ event 0 (requests.ZoneFree 1) answers.Ok ∷ []) (requests.WriteS 0 true) ≡ answers.Ok
 freed = refl
+
+-- a zone that is freed or switched off leaves its output, in the arm's zone or out of it
+freed_leaves : signals_after doors (tied ++ event 0 (requests.ZoneFree 2) answers.Ok ∷ event 0 (requests.ZoneFree 1) answers.Ok ∷ []) ≡ false ∷ true ∷ []
+freed_leaves = refl
+
+moved_and_freed : signals_after doors (tied ++ went ∷ event 0 (requests.ZoneFree 1) answers.Ok ∷ event 0 (requests.ZoneFree 2) answers.Ok ∷ []) ≡ true ∷ false ∷ []
+moved_and_freed = refl
+
+off_leaves : signals_after doors (tied ++ went ∷ off ∷ []) ≡ true ∷ false ∷ []
+off_leaves = refl
+
+-- an output that a task wrote keeps its value while other outputs are set by zones and moves
+written_stays : signals_after doors (event 1 (requests.WriteS 1 true) answers.Ok ∷ tied_one ∷ went ∷ event 0 (requests.ZoneFree 1) answers.Ok ∷ []) ≡ true ∷ true ∷ []
+written_stays = refl

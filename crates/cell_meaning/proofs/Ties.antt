@@ -47,7 +47,7 @@ untied zones signal is task number = by (number == 0)
     by false = none_at (ties signal) (arm_at zones task) None (number - 1) refl arm
 
 -- what an event ties
-record NewTie (task number signal : ℕ) (e : Event) : Type 0 where
+pub record NewTie (task number signal : ℕ) (e : Event) : Type 0 where
   temporary : Bool
   shape : Shape
   output : Output
@@ -58,7 +58,7 @@ switched_ties : (on : Bool) (held : Option OwnZone) (signal : ℕ) → ties sign
 switched_ties on None signal = refl
 switched_ties on (Some zone) signal = refl
 
-tied_was : (cell : CellData) (task number signal : ℕ) (h : List Event) (e : Event) → AllAnswered cell (h ++ e ∷ []) → IsTiedBy (zones_after cell (h ++ e ∷ [])) task number signal
+pub tied_was : (cell : CellData) (task number signal : ℕ) (h : List Event) (e : Event) → AllAnswered cell (h ++ e ∷ []) → IsTiedBy (zones_after cell (h ++ e ∷ [])) task number signal
     → NewTie task number signal e ⊎ IsTiedBy (zones_after cell h) task number signal
 tied_was cell task number signal h e asked tied = by (acts_of task number e) refl
   where
@@ -74,7 +74,7 @@ tied_was cell task number signal h e asked tied = by (acts_of task number e) ref
     by leaves is = inr (now leaves is)
 
 -- of its own task, with the number that was answered
-tie_of : (task number signal : ℕ) (e : Event) → NewTie task number signal e → (e.actor ≡ task) × (old : ℕ) × (temporary : Bool) × (shape : Shape) × (value : Bool) × (e.request ≡ requests.ZoneTie old temporary shape signal value) × (e.answer ≡ answers.Number number)
+pub tie_of : (task number signal : ℕ) (e : Event) → NewTie task number signal e → (e.actor ≡ task) × (old : ℕ) × (temporary : Bool) × (shape : Shape) × (value : Bool) × (e.request ≡ requests.ZoneTie old temporary shape signal value) × (e.answer ≡ answers.Number number)
 tie_of task number signal e new =
     let w : IsActs task number e (gives new.temporary new.shape (Some new.output)) = subst (IsActs task number e) new.is (all_meant task number e) in
     (w.0, w.1.0, new.temporary, new.shape, new.output.value, w.1.1 ∙ ap (λ (s : ℕ). requests.ZoneTie w.1.0 new.temporary new.shape s new.output.value) new.its, w.1.2)

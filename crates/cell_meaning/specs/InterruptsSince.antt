@@ -1,11 +1,11 @@
 -- The interrupts of a task, from the events of a history alone (RAPID Instructions: CONNECT, ISignalDI, IPers, ISleep,
--- IWatch, IDelete).
+-- IWatch, IDelete, IDisable, IEnable).
 use Rattle.std.specs.Prelude.{◌≡◌, ◌⊎◌, ℕ, Bool, true, IsTrue, List}
 use Rattle.std.specs.List.{list_any}
 use Rattle.rapid_model.specs.CellData.{CellData}
 use Rattle.rapid_model.specs.declared.answer.Answer.TheVariants as answers
 use Rattle.rapid_model.specs.declared.event.Event.{Event}
-use Rattle.rapid_model.specs.declared.request.Request.TheVariants.{Connect, Order, Sleep, Watch, Delete}
+use Rattle.rapid_model.specs.declared.request.Request.TheVariants.{Look, Connect, Order, Sleep, Watch, Delete, Disable, Enable, Leave}
 use Rattle.rapid_model.specs.declared.watched.Watched.{Watched}
 use Rattle.trap_dispatch.specs.Firing.{is_change}
 use Rattle.cell_meaning.specs.Changes.{changes_of}
@@ -43,3 +43,17 @@ Fires cell task number on before e = IsTrue (list_any (is_change on) (changes_of
 -- an order ends with its connection, and a Single order as it fires
 abbrev pub EndsOrder : CellData → ℕ → ℕ → Watched → Bool → List Event → Event → Type 0
 EndsOrder cell task number on single before e = ConnectsAny task number before e ⊎ ((single ≡ true) × Fires cell task number on before e)
+
+-- the task disables all interrupts, or enables them
+abbrev pub Disables : ℕ → List Event → Event → Type 0
+Disables task before e = IsEvent task Disable answers.Ok e
+
+abbrev pub Enables : ℕ → List Event → Event → Type 0
+Enables task before e = IsEvent task Enable answers.Ok e
+
+-- a trap of the task begins, or ends
+abbrev pub BeginsTrap : ℕ → List Event → Event → Type 0
+BeginsTrap task before e = (number : ℕ) × (trap : ℕ) × IsEvent task Look (answers.Trap number trap) e
+
+abbrev pub EndsTrap : ℕ → List Event → Event → Type 0
+EndsTrap task before e = IsEvent task Leave answers.Ok e

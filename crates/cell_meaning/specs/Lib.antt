@@ -17,8 +17,11 @@ pub mod Stalled
 pub mod Premises
 pub mod Over
 pub mod Turns
+pub mod Orders
 pub mod Since
 pub mod InterruptsSince
 pub mod MeetingsSince
 pub mod ZonesSince
 pub mod OutputsFollow
+pub mod Setting
+pub mod SignalsSince

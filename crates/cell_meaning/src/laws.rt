@@ -1,4 +1,4 @@
-ghost use Rattle.std.specs.Prelude.{◌≡◌, ◌<◌, ◌↔◌, ℕ, Bool, List, length, count_by, IsTrue, true, false, Some};
+ghost use Rattle.std.specs.Prelude.{◌≡◌, ◌<◌, ◌↔◌, ℕ, Bool, List, [], length, map, count_by, IsTrue, true, false, Some};
 ghost use Rattle.rapid_num.specs.declared.shape.Shape.{Shape};
 ghost use Rattle.rapid_model.specs.CellData.{CellData, IsCell};
 ghost use Rattle.rapid_model.specs.Fits.{fits_request, fitting_in};
@@ -25,6 +25,7 @@ ghost use Rattle.cell_meaning.specs.InterruptsSince.{Connects, ConnectsAny, Dele
 ghost use Rattle.cell_meaning.specs.MayAsk.{may_ask};
 ghost use Rattle.cell_meaning.specs.Meetings.{is_waiting, stands_after};
 ghost use Rattle.cell_meaning.specs.MeetingsSince.{Comes, ComesApart, is_met_at};
+ghost use Rattle.cell_meaning.specs.Orders.{IsInOrder};
 ghost use Rattle.cell_meaning.specs.OutputsFollow.{OutputsFollow};
 ghost use Rattle.cell_meaning.specs.Over.{IsOver};
 ghost use Rattle.cell_meaning.specs.Premises.{OnlyActorsAsk, AsksOne, AsksWhatItMay, AsksUntilItsEnd, AsksInputs, TasksAskWell, AllAnswered, AskTheSame, StartsFull};
@@ -58,17 +59,40 @@ pub fn run_by_turns_is_one<A: Askers>()
     ensures { (cell : CellData) (history other : List Event) → AsksOne A.asks → IsByTurns A.asks cell history → IsByTurns A.asks cell other → history ≡ other }
 {}
 
+/// A law: a run in an order is legal, and nothing follows it.
+pub fn run_in_order_is_legal_and_whole<A: Askers>()
+    ensures legal { (cell : CellData) (choices : List ℕ) (history : List Event) → IsCell cell → StartsFull cell → AsksWhatItMay A.asks cell → IsInOrder A.asks cell choices history → IsLegal A.asks cell history }
+    ensures whole { (cell : CellData) (choices : List ℕ) (history : List Event) → OnlyActorsAsk A.asks cell → IsInOrder A.asks cell choices history → IsWhole A.asks cell history }
+{}
+
+/// A law: two runs of the same actors in the same cell and order are the same history.
+pub fn run_in_order_is_one<A: Askers>()
+    ensures { (cell : CellData) (choices : List ℕ) (history other : List Event) → AsksOne A.asks → IsInOrder A.asks cell choices history → IsInOrder A.asks cell choices other → history ≡ other }
+{}
+
+/// A law: the run in the empty order is the round-robin run, and the other way round.
+pub fn no_choices_are_by_turns<A: Askers>()
+    ensures { (cell : CellData) (history : List Event) → IsInOrder A.asks cell [] history ↔ IsByTurns A.asks cell history }
+{}
+
+/// A law: each legal and complete history is the run in the order of its own actors.
+pub fn each_history_has_its_order<A: Askers>()
+    ensures { (cell : CellData) (history : List Event) → IsLegal A.asks cell history → IsWhole A.asks cell history → IsInOrder A.asks cell (map (λ e. e.actor) history) history }
+{}
+
 /// A law: after a legal and complete history, each task has ended, or waits for something that is not enabled, or the
 /// steps are used up.
 pub fn whole_history_is_over<A: Askers>()
     ensures { (cell : CellData) (history : List Event) (task : ℕ) → task < length cell.tasks → AsksUntilItsEnd A.asks cell → IsLegal A.asks cell history → IsWhole A.asks cell history → IsOver A.asks cell history task }
 {}
 
-/// A law: if two ask the same, a history that is legal, complete or the round-robin run for one is so for the other.
+/// A law: if two ask the same, a history that is legal, complete, the round-robin run or the run in an order for one is
+/// so for the other.
 pub fn who_ask_the_same_have_the_same_histories<A: Askers, B: Askers>()
     ensures legal { (cell : CellData) (history : List Event) → AskTheSame A.asks B.asks → IsLegal A.asks cell history → IsLegal B.asks cell history }
     ensures whole { (cell : CellData) (history : List Event) → AskTheSame A.asks B.asks → IsWhole A.asks cell history → IsWhole B.asks cell history }
     ensures by_turns { (cell : CellData) (history : List Event) → AskTheSame A.asks B.asks → IsByTurns A.asks cell history → IsByTurns B.asks cell history }
+    ensures in_order { (cell : CellData) (choices : List ℕ) (history : List Event) → AskTheSame A.asks B.asks → IsInOrder A.asks cell choices history → IsInOrder B.asks cell choices history }
 {}
 
 /// A law: in a stalled cell each task that has not ended asks for a Rise that is not enabled.

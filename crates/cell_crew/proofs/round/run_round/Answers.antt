@@ -2,7 +2,7 @@ use Rattle.std.proofs.Common.{◌≡◌, length, map, drop, ◌∙◌, arith}
 use Rattle.std.proofs.lemmas.List.{length-map}
 use Rattle.std.proofs.Math.Seq.{take-append_seam}
 use Rattle.cell_meaning.specs.Asking.{with_inputs}
-use Rattle.cell_meaning.proofs.ByTurns.{by_turns_whole}
+use Rattle.cell_meaning.proofs.Orders.{by_turns_whole}
 use Rattle.cell_meaning.proofs.InputScript.{only_actors}
 use Rattle.cell_crew.proofs.Courses.{crew_asks_what_it_may}
 use Rattle.cell_crew.proofs.round.run_round.Goals as goal

@@ -1,4 +1,4 @@
-use Rattle.cell_meaning.proofs.ByTurns.{by_turns_legal, by_turns_whole}
+use Rattle.cell_meaning.proofs.Orders.{by_turns_legal, by_turns_whole}
 use Rattle.cell_meaning.proofs.laws.run_by_turns_is_legal_and_whole.Goals as goal
 
 pub returns-clause-legal : goal.returns-clause-legal

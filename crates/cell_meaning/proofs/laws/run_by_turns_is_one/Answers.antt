@@ -1,4 +1,4 @@
-use Rattle.cell_meaning.proofs.ByTurns.{by_turns_one}
+use Rattle.cell_meaning.proofs.Orders.{by_turns_one}
 use Rattle.cell_meaning.proofs.laws.run_by_turns_is_one.Goals as goal
 
 pub returns : goal.returns

@@ -1,4 +1,4 @@
-use Rattle.cell_meaning.proofs.Same.{by_turns_there, legal_there, whole_there}
+use Rattle.cell_meaning.proofs.Same.{by_turns_there, in_order_there, legal_there, whole_there}
 use Rattle.cell_meaning.proofs.laws.who_ask_the_same_have_the_same_histories.Goals as goal
 
 pub returns-clause-legal : goal.returns-clause-legal
@@ -9,3 +9,6 @@ returns-clause-whole g c = λ cell history same whole. whole_there g.A.Askers.as
 
 pub returns-clause-by_turns : goal.returns-clause-by_turns
 returns-clause-by_turns g c = λ cell history same run. by_turns_there g.A.Askers.asks g.B.Askers.asks cell history same run
+
+pub returns-clause-in_order : goal.returns-clause-in_order
+returns-clause-in_order g c = λ cell choices history same run. in_order_there g.A.Askers.asks g.B.Askers.asks cell choices history same run
