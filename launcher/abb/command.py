@@ -3,6 +3,7 @@ import os
 from pathlib import Path
 from typing import Dict, List, Optional, Sequence, Tuple
 
+from ..places import COMMAND
 from ..say import put_out, say, show, wrong
 from . import again
 from .imported import REPORT, Imported, Wanted, import_backup
@@ -98,4 +99,4 @@ def told(wanted: Wanted, found: Imported, before: Optional[again.Before]) -> Lis
     lines += [f"  {NOT_KEPT}: {line_text(it)}" for it in report.entries if it.kind == NOT_KEPT]
     if before:
         lines += again.changes(before, found)
-    return [*lines, f"Next: ./rapid_cell check {wanted.out / 'cell.toml'}"]
+    return [*lines, f"Next: {COMMAND} check {wanted.out / 'cell.toml'}"]

@@ -4,9 +4,9 @@ from typing import List, Optional, Set, Tuple
 from . import rules
 from .declarations import declared
 from .flow import ends
-from .guess import guess_signals
+from .guess import guess_signals, use_generated
 from .job import Job
-from .library import Library
+from .library import MODULE, Library
 from .model import Backup, Converted, Module, NotRead, Task
 from .names import Names, Text
 from .order import ordered
@@ -60,7 +60,10 @@ def convert(backup: Backup, task: Task, texts: List[Text], others: Set[str], rea
     repeat_main(job)
     renderings = [Rendering(job, text) for text in texts]
     for at in renderings:
-        items(at)
+        if at.module.lower() == MODULE:
+            use_generated(job, at.text)
+        else:
+            items(at)
     finish(job, renderings)
     return result(job, renderings)
 

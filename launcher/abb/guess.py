@@ -55,3 +55,13 @@ def guess_name(job: Job, text: Text, node: Node, kind: str, own: Set[str]) -> No
     small = node.name.lower()
     if small not in own and small not in job.backup.signals and job.names.item(text, node.name) is None:
         job.guess(text, text.line_of(node.start), node.name, kind)
+
+
+def use_generated(job: Job, text: Text) -> None:
+    """The signals that a generated module names, bits of groups among them: such a module is left as it is."""
+    for item in text.tree.items:
+        for node in nodes_in(item):
+            if isinstance(node, Name) and job.names.item(text, node.name) is None and job.signal(node.name) is None:
+                group, _, bit = node.name.rpartition("_")
+                if bit.isdigit() and group:
+                    job.signal(group)
