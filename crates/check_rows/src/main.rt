@@ -43,7 +43,7 @@ mod row;
 mod told;
 mod trial;
 
-use anyhow::Context;
+use anyhow::{Context, bail};
 use call::call_told;
 use cell::Cell;
 use row::{Group, read_groups};
@@ -105,7 +105,9 @@ fn call_group(rt: &HostRuntime, group: &Group<'_>, frame: &str) -> anyhow::Resul
         agreeing: 0,
     };
     for row in &group.rows {
-        let (calls, texts) = row.texts.as_slice().split_first().context("calls")?;
+        let Some((calls, texts)) = row.texts.as_slice().split_first() else {
+            bail!("the row of line {} has no calls", row.line);
+        };
         let cell = Cell::new(rt.alloc(), frame, texts).context(format_args!(
             "the row of line {}",
             row.line
