@@ -14,7 +14,7 @@
 mod reads;
 
 use anyhow::{Context, bail};
-use outside::{FileShelf, MemoryShelf, MemorySink, Sink, StreamSink};
+use outside::{Failed, FileShelf, MemoryShelf, MemorySink, Sink, StreamSink};
 use reads::{add_reads, second_read};
 use std::alloc::{AllocError, Global};
 use std::fs;
@@ -76,7 +76,7 @@ fn sink_told(alloc: Global, text: &str) -> anyhow::Result<String> {
     let mut sink = MemorySink::new(alloc, 3, failing).ok().context("memory")?;
     let mut told = String::new(alloc);
     for piece in text.split(' ') {
-        let write = sink.write(piece.as_bytes());
+        let write = write_to(&mut sink, piece.as_bytes())?;
         told.push_str(format!(in alloc; "{write:?}; ")?.as_str())?;
     }
     let bytes = sink.bytes().escape_ascii();
@@ -84,10 +84,18 @@ fn sink_told(alloc: Global, text: &str) -> anyhow::Result<String> {
     Ok(told)
 }
 
+/// One write of bytes that are not none.
+fn write_to<S: Sink>(sink: &mut S, piece: &[u8]) -> anyhow::Result<Result<usize, Failed>> {
+    if piece.is_empty() {
+        bail!("nothing is written");
+    }
+    Ok(sink.write(piece))
+}
+
 fn written<R: Files + AllocGlobal>(rt: &R, text: &str) -> anyhow::Result<String> {
     let (name, text) = text.split_once(' ').context("a name and a text")?;
     let mut sink = StreamSink::new(fs::create(rt, name)?);
-    let write = sink.write(text.as_bytes());
+    let write = write_to(&mut sink, text.as_bytes())?;
     Ok(format!(in rt.alloc(); "{write:?}")?)
 }
 

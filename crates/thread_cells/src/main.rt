@@ -22,11 +22,16 @@ use controller::is_run;
 use counting::{audited, refused, replayed};
 use outcome::{NEVER, Outcome, ends, events_of, outcome_of, printed};
 use outside::NoPace;
+use rapid_model::Event;
 use replay::{is_legal_and_whole, tells_its_history};
+use std::mem::size_of;
 use std::rt::Files;
 use std::sync::Wait;
 use std::thread::Threads;
 use together::Together;
+
+// A run keeps all its events.
+const _: () = prove!(size_of::<Event>() <= 512);
 
 fn main(rt: HostRuntime) -> anyhow::Result<()> {
     for line in rt.lines(rt.alloc()) {
