@@ -31,7 +31,12 @@ OPTIONS = {
     b"--unproved": "has_unproved",
 }
 # The actions that options go with; the others go with all.
-GO_WITH = {"--all": ("check",), "--lcov": ("cover",), "--run": ("table", "show", "why"), "--source": ("list",)}
+GO_WITH = {
+    "--all": ("check",),
+    "--lcov": ("cover",),
+    "--run": ("table", "show", "why"),
+    "--source": ("list",),
+}
 
 
 def taken_apart(given: Sequence[bytes]) -> Asked:

@@ -203,7 +203,20 @@ def run(asked: Asked, found: Program) -> int:
         if hints.is_pipe(word):
             say(f"{hints.shown_word(word)} is a pipe: it is read until its writer closes it")
     ran = program.run(found, asked.words)
+    if b"state" in asked.words[:2] and ran.status == 0:
+        add_notes(asked, found)
     return helped(asked, ran.status, ran.err)
+
+
+def add_notes(asked: Asked, found: Program) -> None:
+    """Says below a state how the interrupts are."""
+    from .state_notes import notes
+
+    try:
+        for it in notes(found, asked.words):
+            say(it)
+    except (OSError, ValueError, LookupError) as error:
+        say(f"the interrupts are not shown ({error})")
 
 
 def all_checked(asked: Asked, found: Program) -> int:

@@ -2,7 +2,7 @@
 from typing import Dict, List, Optional, Set, Tuple
 
 from .code import Op
-from .machine import Code
+from .raising import Code
 from .values import SIZES
 
 # How many operands each operation takes, and how many it leaves; those with others are below.
