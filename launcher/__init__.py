@@ -62,6 +62,7 @@ A run:
     blame           which parts of a condition keep it from being TRUE
     interrupts      the interrupts of the tasks, and which of them wait; interrupt_words has them in words
     state_notes     the interrupts below the lines of `state`
+    watched_gaps    `clearance --watched CELL`
     touching        where a way touches a zone
     coverage        which statements ran, and which lists inside them
     cover           `cover CELL..`

@@ -57,6 +57,7 @@ OPTIONS = (
     Option("--all", False, "with check: goes on after an error, and shows up to 50 errors at once"),
     Option("--run", False, "with table, show and why: gives each task a thread, as run does"),
     Option("--keep", False, "with why, before the name of a file: writes the history of the run there", "FILE"),
+    Option("--watched", False, "with clearance: adds the least gap of each zone while it was watched (W)"),
     Option("--lcov", False, "with cover: prints the counts as a tracefile of lcov, for editors"),
     Option("-o", False, "with show, before the name of a file: writes the page there; with package, before that of\na folder", "NAME"),
     Option("--gate", False, "with package, before the name of a file with what rt ci printed: its last lines go into\nthe record", "FILE"),

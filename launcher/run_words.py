@@ -61,6 +61,15 @@ def why(asked: Asked) -> int:
     return of_cell(replace(asked, words=words), lambda found, file: explained(found, words[1], file, run, is_shown))
 
 
+def clearance(asked: Asked) -> int:
+    """`clearance --watched`, whose words the program does not refuse."""
+    from .watched_gaps import printed
+
+    cell = next(it for it in asked.words[1:] if it != hints.HISTORY)
+    asked = replace(asked, words=[b"clearance", cell])
+    return of_cell(asked, lambda found, file: printed(found, cell, file))
+
+
 def cover(asked: Asked) -> int:
     """Each word is the script of a cell, or a history of the cell before it."""
     cells = cells_of(asked.words[1:])

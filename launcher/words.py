@@ -8,7 +8,7 @@ from . import actions, build, hints, kept, program
 from .asked import Asked, ended, found_program, helped, made_program, misplaced, taken_apart
 from .places import IS_INSTALLED
 from .program import Program
-from .run_words import OF_RUNS, listed
+from .run_words import OF_RUNS, clearance, listed
 from .say import (
     NO_PROGRAM,
     NOT_PRINTED,
@@ -82,6 +82,8 @@ def ask(given: List[bytes]) -> int:
         return of_run(asked)
     if asked.has_source and refused_place(words) is None:
         return listed(asked)
+    if asked.has_watched and refused_place(words) is None:
+        return clearance(asked)
     return of_program(asked)
 
 
