@@ -42,6 +42,7 @@ ACTIONS = (
     Action("show", "CELL [HISTORY]", False, "runs the cell as round does, and writes a page of the run for a browser, named as the\nfolder of the cell, or as -o FILE says; with two histories, also where they part"),
     Action("why", "CELL [HISTORY]", False, "runs the cell as round does, and says of each task how it ended, where, and why"),
     Action("cover", "CELL [HISTORY]..", False, "runs one or several cells as round does, and prints how many lines and branches of their\nmodules ran, and which did not"),
+    Action("lint", "CELL", False, "checks the cell, and warns of what is allowed and hardly meant; its status is that of list"),
     Action("watch", "CELL", False, "checks again whenever a file of the cell changes; Ctrl-C ends it"),
     Action("explain", "WORD", False, "a rule, a fault, a status, an error's number, or any word of RAPID: its cause, an\nexample, what to write instead"),
     Action("build", "", False, "proves every crate of the program and builds it: an hour or more the first time"),

@@ -1,4 +1,4 @@
-"""The words about what the program prints of a cell: `table`, `show`, `why`, `cover` and `list --source`."""
+"""The words about what the program prints of a cell: `table`, `show`, `why`, `cover`, `lint` and `list --source`."""
 import os
 from dataclasses import replace
 from pathlib import Path
@@ -70,6 +70,15 @@ def clearance(asked: Asked) -> int:
     return of_cell(asked, lambda found, file: printed(found, cell, file))
 
 
+def lint(asked: Asked) -> int:
+    if len(asked.words) != 2:
+        return wrong("lint takes the script of a cell")
+    from .lint import linted
+
+    is_shown = is_coloured(1) and not asked.is_plain
+    return of_cell(asked, lambda found, file: linted(found, asked.words[1], file, is_shown))
+
+
 def cover(asked: Asked) -> int:
     """Each word is the script of a cell, or a history of the cell before it."""
     cells = cells_of(asked.words[1:])
@@ -100,7 +109,7 @@ def cells_of(words: Sequence[bytes]) -> List[Tuple[bytes, Run]]:
     return found
 
 
-OF_RUNS: Dict[bytes, Callable[[Asked], int]] = {b"table": table, b"show": show, b"why": why, b"cover": cover}
+OF_RUNS: Dict[bytes, Callable[[Asked], int]] = {b"table": table, b"show": show, b"why": why, b"cover": cover, b"lint": lint}
 
 
 def run_of(asked: Asked, histories: Sequence[bytes], kept: Optional[bytes] = None) -> Optional[Run]:

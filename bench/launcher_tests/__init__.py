@@ -11,6 +11,7 @@
     state_words  what is said of interrupts below the lines of `state`
     kept_runs    `why`, `show`, `table` and `cover` of a history
     second_machine    the launcher's machine against `trace` and `state`, over every example
+    planted      `lint`, on the cells of planted/, and over every example
     histories    the whole history of each example's run, against its lines
     words        the command line, the help, completion, and streams that fail
     refused      refusals, as they are shown

@@ -71,7 +71,7 @@ def try_help():
     for words in (("-h",), ("help",), ("check", "--help"), ("build", "-h")):
         compare(f"help by {words}", ask(*words), page)
     compare("help has no line too long", max(map(len, page[1].splitlines())) <= 130, True)
-    for name in ("check", "round", "run", "list", "load", "audit", "state", "clearance", "trace", "migrate", "table", "show", "why", "cover", "explain", "build", "package", "proved", "watch", "lsp", "completion", "--history", "--all", "--run", "--source", "--lcov", "--keep", "--watched", "-o", "--gate", "--plain", "--proved"):
+    for name in ("check", "round", "run", "list", "load", "audit", "state", "clearance", "trace", "migrate", "table", "show", "why", "lint", "cover", "explain", "build", "package", "proved", "watch", "lsp", "completion", "--history", "--all", "--run", "--source", "--lcov", "--keep", "--watched", "-o", "--gate", "--plain", "--proved"):
         compare(f"help has {name}", name in page[1], True)
     status, out, err = ask()
     compare("no word", (status, out, err.startswith("rapid_cell: words 0\n"), "./rapid_cell check CELL" in err), (2, "", True, True))
