@@ -22,7 +22,7 @@ The program:
 Texts:
     texts           the texts of a cell: its script and its modules
     script          what a script says: tasks, signals, zones, inputs
-    toml_places     the keys of a TOML text and where they stand
+    toml_places     the keys of a TOML text, with their places and values; toml_values has strings and numbers, toml_tables the tables
     toml_faults     where and why a text is not TOML
     tokens          the tokens of a module's text
     grammar         the grammar of docs/LANGUAGE.md, and a parser by it
@@ -51,6 +51,7 @@ A run:
     trace           the lines of a trace: events with the places of statements
     table           `table CELL`
     timeline        the events of a run as columns of numbers
+    page_file       the file of a page
     show            `show CELL`; page/ has the page's parts: page.html, page.css, and its scripts
     why             `why CELL`; why_faults, why_zones, why_waits and why_steps have the reasons, rings the tasks that wait for one another
     story           the tasks of a run along its events, and what changed last

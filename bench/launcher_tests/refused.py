@@ -1,5 +1,4 @@
 """Refusals, shown with the line, a caret, the cause, and what to write instead."""
-import importlib.util
 import os
 import pty
 import re
@@ -118,7 +117,7 @@ def try_module(folder, given, text, label, notes):
 
 
 SCRIPTS = (
-    ("version = 1", "version 1", "--> cell.toml:1:9", "Expected '=' after a key"),
+    ("version = 1", "version 1", "--> cell.toml:1:9", "expected `=` after a key"),
     ('"A"', '"A', "--> cell.toml:12:10", "perhaps a quote is missing"),
     ("[0, 0, 0, 0, 0, 0]", "[0, 0]", "--> cell.toml:14:1", "`arm` is optional: an array of six integers"),
     ('modules = ["m.mod"]', "", "--> cell.toml:11:1", "`modules` is an array of 1 to 16 texts"),
@@ -133,9 +132,7 @@ def try_scripts():
     with tempfile.TemporaryDirectory() as folder:
         Path(folder, "m.mod").write_text(FRAME.format(item="", statement=""))
         script = Path(folder, "cell.toml")
-        # Python has a reader of TOML from 3.11 on.
-        some = SCRIPTS if importlib.util.find_spec("tomllib") else SCRIPTS[2:]
-        for one, other, place, said in some:
+        for one, other, place, said in SCRIPTS:
             script.write_text(SCRIPT.replace(one, other, 1))
             status, out, err = ask(*options, "check", "cell.toml", cwd=folder)
             whole = " ".join(it.strip(" =") for it in err.splitlines())
