@@ -58,6 +58,7 @@ def misplaced(asked: Asked) -> Optional[str]:
 
 def found_program(asked: Asked) -> Optional[Program]:
     """The program that answers without being made first."""
+    kept.sweep()
     if asked.has_unproved:
         return program.unproved()
     return program.proved() if asked.has_proved else program.ready()
