@@ -6,7 +6,7 @@ import zlib
 from pathlib import Path
 from typing import Any, Dict, Iterator, List, Tuple
 
-from . import explain, program, script
+from . import explain, page_file, program, script
 from .coverage import Coverage
 from .history import end_of
 from .listing import Listing
@@ -21,9 +21,6 @@ SCRIPTS = ("run.js", "view.js", "rows.js", "charts.js", "picture.js", "texts.js"
 # The types of columns; one of bytes has none.
 TYPES = {"I": "u32", "i": "i32"}
 PART = re.compile(r"\{(style|cell|columns|script)\}")
-# The line of a page by which `show` knows its own.
-MARK = b'<meta name="generator" content="rapid_cell show">'
-HEAD = 1024
 
 
 class Shown:
@@ -52,7 +49,7 @@ class Shown:
 
 def write_page(found: Program, name: bytes, file: Path, action: bytes, page: Path) -> Answer:
     """Runs the cell, and writes the page, whose name is the answer. The status is the program's, unless the page is not written."""
-    if not may_be_written(page):
+    if not page_file.may_be_put(page):
         say(f"{page} is there and is no page of show: remove it, or give another name with -o")
         return Answer(REFUSED, b"", b"")
     lines: List[str] = []
@@ -64,7 +61,7 @@ def write_page(found: Program, name: bytes, file: Path, action: bytes, page: Pat
     if len(shown.ends) < len(shown.script.tasks):
         return answer
     try:
-        page.write_text(page_of(shown, action.decode()), encoding="utf-8")
+        page_file.put(page, page_of(shown, action.decode()))
     except OSError as error:
         say(f"{page} could not be written ({error.strerror})")
         return Answer(NOT_PRINTED, b"", answer.err)
@@ -75,17 +72,6 @@ def page_for(file: Path) -> Path:
     """The page of a cell, in the current folder: named as the script's folder, or as the script if that is not a `cell.toml`."""
     name = file.resolve().parent.name if file.name == "cell.toml" else file.stem
     return Path(f"{name or 'cell'}.html")
-
-
-def may_be_written(page: Path) -> bool:
-    """Whether nothing is at a page's place but an earlier page."""
-    try:
-        with page.open("rb") as text:
-            return MARK in text.read(HEAD)
-    except FileNotFoundError:
-        return True
-    except OSError:
-        return False
 
 
 def page_of(shown: Shown, action: str) -> str:
