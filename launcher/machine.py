@@ -11,7 +11,7 @@ from .code import Op, Walk
 from .history import Event
 from .lengths import Room
 from .memory import Frame, Held
-from .operations import Asking, Fault
+from .operations import Asking, Fault, Unknown
 from .statements import Source
 from .values import LARGEST, UNIT, OutOfRange, Raised, shown
 
@@ -100,7 +100,10 @@ class Machine(ArmOperations):
         self.asked = next(self.life)
 
     def operation(self, op: Op) -> Tuple[Callable[[Op], Optional[Asking]], Op]:
-        return getattr(self, f"op_{op.name.lower()}"), op
+        does = getattr(self, f"op_{op.name.lower()}", None)
+        if does is None:
+            raise Unknown(f"the operation {op.name}")
+        return does, op
 
     def take(self, event: Event) -> None:
         """Goes on by the answer of an event. ValueError if it is not what the task asks."""
