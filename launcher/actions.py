@@ -54,7 +54,7 @@ ACTIONS = (
 )
 OPTIONS = (
     Option("--history", True, "prints every event of a run, as a line H, in place of its setpoints and texts"),
-    Option("--all", False, "with check: goes on after an error, and shows up to 50 errors at once"),
+    Option("--all", False, "with check: goes on after an error, and shows up to 50 errors at once, or N with --all=N"),
     Option("--run", False, "with table, show and why: gives each task a thread, as run does"),
     Option("--lcov", False, "with cover: prints the counts as a tracefile of lcov, for editors"),
     Option("-o", False, "with show, before the name of a file: writes the page there; with package, before that of a folder", "NAME"),

@@ -211,7 +211,7 @@ def all_checked(asked: Asked, found: Program) -> int:
     from .shown import script_of
 
     script = script_of(asked.words)
-    return check_all(found, asked.words, script, asked.is_plain) if script else run(asked, found)
+    return check_all(found, asked, script) if script else run(asked, found)
 
 
 def refused_place(words: Sequence[bytes]) -> Optional[int]:
