@@ -6,7 +6,7 @@ It reads what the program reads, which is TOML 1.1. Python's own reader gives no
 import functools
 import re
 from dataclasses import dataclass
-from typing import List, Optional, Tuple, Union
+from typing import Dict, List, Optional, Tuple, Union
 
 from . import toml_tables
 from .toml_tables import Clash, Origin, Path, Table
@@ -56,10 +56,13 @@ def keys_of(text: bytes) -> Tuple[Key, ...]:
 
 
 def place_of_key(text: bytes, key: str) -> Optional[int]:
-    """The place of the first byte of a key that the program names as `task[0].arm`. If it is not there, that of the
-    nearest table around it that does; None for the whole script."""
+    """The place of the first byte of a key that the program names as `task[0].arm`, or of the first one below it. If none is there,
+    that of the nearest table around it that is; None for the whole script."""
     path = tuple(re.findall(r"[^.\[\]]+", key))
-    places = {it.path: it.at for it in reversed(keys_of(text))}
+    places: Dict[Path, int] = {}
+    for it in keys_of(text):
+        for n in range(len(it.path), 0, -1):
+            places.setdefault(it.path[:n], it.at)
     while path:
         if path in places:
             return places[path]

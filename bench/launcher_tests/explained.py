@@ -75,6 +75,9 @@ def try_command():
     status, out, err = launch("explain", "CornerZone")
     compare("explain CornerZone", (status, out.startswith(cause), err), (0, True, ""))
     compare("explain nothing known", ask("explain", "zork")[:2], (2, ""))
+    for word in ("heartbeat", "deadlock"):
+        status, out, err = ask("explain", word)
+        compare(f"explain {word}", (status, out, "did you mean" in err), (2, "", False))
     compare("explain, did you mean", "did you mean CornerZone?" in ask("explain", "CornerZon")[2], True)
     compare("explain without a word", ask("explain")[:2], (2, ""))
     # Nobody reads it.
