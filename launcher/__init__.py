@@ -31,6 +31,8 @@ Texts:
     manual          the names of ABB's manuals that are not supported, from manual.txt
     reserved        the reserved words, from reserved.txt, and the marks
     explain         `explain WORD`
+    examples        `examples WORD`
+    new             `new FOLDER`
 A refusal:
     refusals        a refusal, read from the program's line
     view            the place of a refusal in a module, with the forms around it
@@ -45,6 +47,7 @@ All errors at once:
     faults          the search for all errors
     check_all       `check --all CELL`
     watch           `watch CELL`
+    abb             `check --abb CELL`
 A run:
     history         the lines of a history
     replay          a cell along a history: its arms, zones and signals

@@ -20,6 +20,7 @@ class Asked:
     has_all: bool = False
     # How many errors `--all` shows at most; 0 if the word is no number that it takes.
     most: int = MOST
+    has_abb: bool = False
     has_lcov: bool = False
     has_run: bool = False
     has_source: bool = False
@@ -30,6 +31,7 @@ class Asked:
 
 OPTIONS = {
     b"--all": "has_all",
+    b"--abb": "has_abb",
     b"--lcov": "has_lcov",
     b"--run": "has_run",
     b"--source": "has_source",
@@ -38,7 +40,7 @@ OPTIONS = {
     b"--unproved": "has_unproved",
 }
 # The actions that options go with; the others go with all.
-GO_WITH = {"--all": ("check",), "--lcov": ("cover",), "--run": ("table", "show", "why"), "--source": ("list",)}
+GO_WITH = {"--abb": ("check",), "--all": ("check",), "--lcov": ("cover",), "--run": ("table", "show", "why"), "--source": ("list",)}
 
 
 def taken_apart(given: Sequence[bytes]) -> Asked:

@@ -162,6 +162,18 @@ def serve(words: Sequence[bytes]) -> int:
     return serve(Path(os.fsdecode(words[0])))
 
 
+def examples(words: Sequence[bytes]) -> int:
+    from .examples import examples
+
+    return examples(words)
+
+
+def new(words: Sequence[bytes]) -> int:
+    from .new import new
+
+    return new(words)
+
+
 OWN: Dict[bytes, Callable[[Sequence[bytes]], int]] = {
     b"help": help_of,
     b"version": version,
@@ -171,6 +183,8 @@ OWN: Dict[bytes, Callable[[Sequence[bytes]], int]] = {
     b"proved": proved,
     b"completion": completion,
     b"import": import_backup,
+    b"examples": examples,
+    b"new": new,
 }
 
 
@@ -191,11 +205,16 @@ def of_program(asked: Asked) -> int:
     found = found or made_program(asked)
     if not found:
         return NO_PROGRAM if asked.has_proved or kept.is_kept_by_kit() else kept.try_once(words)
-    if asked.is_plain and not asked.has_all:
+    if asked.is_plain and not asked.has_all and not asked.has_abb:
         return program.become(found, words)
     if found.is_proved and not asked.is_plain:
         build.say_where_stale()
-    return ended(asked, found, all_checked(asked, found) if asked.has_all else run(asked, found))
+    status = all_checked(asked, found) if asked.has_all else run(asked, found)
+    if asked.has_abb and status == 0:
+        from .abb import tell
+
+        tell(Path(os.fsdecode(words[1])))
+    return ended(asked, found, status)
 
 
 def run(asked: Asked, found: Program) -> int:

@@ -11,7 +11,7 @@ ABB = Path(__file__).resolve().parent / "abb"
 # a controller's configuration names.
 OF_CELLS = ("partdata", "program", "length", "good", "report", "STN1")
 MORE = "cornerzone Conc edge 101 41 ERR_UNKINO S T E P0 D0 G0 C read module words script long v1000 num rax_3 eax_f taskname history A robax NoEOffs trans Quick"
-OWN = "check round run list load audit state clearance trace migrate table show cover watch explain build lsp completion version help --history --all --run --source --lcov -o --plain --proved --unproved"
+OWN = "check round run list load audit state clearance trace migrate table show cover watch explain examples new build lsp completion version help --history --all --abb --tasks --run --source --lcov -o --plain --proved --unproved"
 
 
 def try_explain():
