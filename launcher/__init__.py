@@ -47,7 +47,7 @@ All errors at once:
     faults          the search for all errors
     check_all       `check --all CELL`
     watch           `watch CELL`
-    abb             `check --abb CELL`
+    to_abb          `check --abb CELL`
 A run:
     history         the lines of a history
     replay          a cell along a history: its arms, zones and signals

@@ -211,7 +211,7 @@ def of_program(asked: Asked) -> int:
         build.say_where_stale()
     status = all_checked(asked, found) if asked.has_all else run(asked, found)
     if asked.has_abb and status == 0:
-        from .abb import tell
+        from .to_abb import tell
 
         tell(Path(os.fsdecode(words[1])))
     return ended(asked, found, status)

@@ -38,19 +38,19 @@ def try_abb():
 
 def try_abb_on_examples():
     """On the examples, what is told is there: a list that is no PERS, an option `\\Stat`, or a name of the manuals."""
-    from launcher import abb, manual, texts
+    from launcher import manual, texts, to_abb
 
     count = 0
     for script in sorted(EXAMPLES.rglob("cell.toml")):
         if "faults" in script.parts or not all(it.file.is_file() for it in texts.read_cell(script).modules):
             continue
-        for it in abb.findings(texts.read_cell(script)):
+        for it in to_abb.findings(texts.read_cell(script)):
             word = it.text[it.at : it.at + it.length].decode()
             line = texts.line_of(it.text, texts.place_of(it.text, it.at)["row"]).decode()
             is_right = {
-                abb.TASK_LIST: re.search(rf"\b(CONST|VAR) tasks {word}\b", line),
-                abb.STATIONARY: word.lower() == "\\stat",
-                abb.PREDEFINED: manual.find(word),
+                to_abb.TASK_LIST: re.search(rf"\b(CONST|VAR) tasks {word}\b", line),
+                to_abb.STATIONARY: word.lower() == "\\stat",
+                to_abb.PREDEFINED: manual.find(word),
             }[it.rule]
             compare(f"{script.parent.relative_to(EXAMPLES)}: {line}", bool(is_right), True)
             count += 1
