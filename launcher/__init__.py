@@ -22,7 +22,7 @@ The program:
 Texts:
     texts           the texts of a cell: its script and its modules
     script          what a script says: tasks, signals, zones, inputs
-    toml_places     the keys of a TOML text and where they stand
+    toml_places     the keys of a TOML text, with their places and values; toml_values has strings and numbers, toml_tables the tables
     toml_faults     where and why a text is not TOML
     tokens          the tokens of a module's text
     grammar         the grammar of docs/LANGUAGE.md, and a parser by it
@@ -31,6 +31,8 @@ Texts:
     manual          the names of ABB's manuals that are not supported, from manual.txt
     reserved        the reserved words, from reserved.txt, and the marks
     explain         `explain WORD`
+    examples        `examples WORD`
+    new             `new FOLDER`
 A refusal:
     refusals        a refusal, read from the program's line
     view            the place of a refusal in a module, with the forms around it
@@ -45,6 +47,7 @@ All errors at once:
     faults          the search for all errors
     check_all       `check --all CELL`
     watch           `watch CELL`
+    to_abb          `check --abb CELL`
 A run:
     history         the lines of a history
     events          where the events of a run come from: a run, or a history that was kept
@@ -52,6 +55,7 @@ A run:
     trace           the lines of a trace: events with the places of statements
     table           `table CELL`
     timeline        the events of a run as columns of numbers
+    page_file       the file of a page
     show            `show CELL`; page/ has the page's parts: page.html, page.css, and its scripts
     why             `why CELL`; why_faults, why_errors, why_zones, why_waits, why_meetings and why_steps have the reasons, rings the
                     tasks that wait for one another

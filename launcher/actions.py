@@ -45,6 +45,8 @@ ACTIONS = (
     Action("lint", "CELL", False, "checks the cell, and warns of what is allowed and hardly meant; its status is that of list"),
     Action("watch", "CELL", False, "checks again whenever a file of the cell changes; Ctrl-C ends it"),
     Action("explain", "WORD", False, "a rule, a fault, a status, an error's number, or any word of RAPID: its cause, an\nexample, what to write instead"),
+    Action("examples", "WORD", False, "the examples that show a word of RAPID or a key of a script; alone, all of them"),
+    Action("new", "FOLDER", False, "writes a cell that runs, with comments that teach the keys of its script"),
     Action("build", "", False, "proves every crate of the program and builds it: an hour or more the first time"),
     Action("package", "", False, "packs the proved program as a Debian package and as a tar.gz, in the current folder, or\nin the one that -o FOLDER says"),
     Action("proved", "RECORD", False, "compares the checkout with the record of a proof, PROVED, that an installed program has"),
@@ -55,11 +57,13 @@ ACTIONS = (
 )
 OPTIONS = (
     Option("--history", True, "prints every event of a run, as a line H, in place of its setpoints and texts"),
-    Option("--all", False, "with check: goes on after an error, and shows up to 50 errors at once"),
+    Option("--all", False, "with check: goes on after an error, and shows up to 50 errors at once, or N with --all=N"),
+    Option("--abb", False, "with check: says what ABB's controller refuses of a cell that is accepted here (docs/TO_ABB.md)"),
     Option("--run", False, "with table, show and why: gives each task a thread, as run does"),
     Option("--keep", False, "with why, before the name of a file: writes the history of the run there", "FILE"),
     Option("--watched", False, "with clearance: adds the least gap of each zone while it was watched (W)"),
     Option("--lcov", False, "with cover: prints the counts as a tracefile of lcov, for editors"),
+    Option("--tasks", False, "with new, before a number: how many tasks the cell has, 1 to 16"),
     Option("-o", False, "with show, before the name of a file: writes the page there; with package, before that of\na folder", "NAME"),
     Option("--gate", False, "with package, before the name of a file with what rt ci printed: its last lines go into\nthe record", "FILE"),
     Option("--source", False, "with list: prints each operation below the line of the module that it belongs to"),

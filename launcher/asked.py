@@ -7,12 +7,20 @@ from .program import Program
 from .say import REFUSED, is_coloured, say, show
 
 
+# How many errors `check --all` shows at once, and how often it checks a cell at most, so how many errors it finds.
+MOST = 50
+RUNS = 400
+
+
 @dataclass
 class Asked:
     """The words without the launcher's options, and which of these were given."""
 
     words: List[bytes]
     has_all: bool = False
+    # How many errors `--all` shows at most; 0 if the word is no number that it takes.
+    most: int = MOST
+    has_abb: bool = False
     has_lcov: bool = False
     has_run: bool = False
     has_source: bool = False
@@ -24,6 +32,7 @@ class Asked:
 
 OPTIONS = {
     b"--all": "has_all",
+    b"--abb": "has_abb",
     b"--lcov": "has_lcov",
     b"--run": "has_run",
     b"--source": "has_source",
@@ -34,6 +43,7 @@ OPTIONS = {
 }
 # The actions that options go with; the others go with all.
 GO_WITH = {
+    "--abb": ("check",),
     "--all": ("check",),
     "--lcov": ("cover",),
     "--run": ("table", "show", "why"),
@@ -47,9 +57,16 @@ def taken_apart(given: Sequence[bytes]) -> Asked:
     for word in given:
         if word in OPTIONS:
             setattr(asked, OPTIONS[word], True)
+        elif word.startswith(b"--all="):
+            asked.has_all, asked.most = True, number_of(word[len(b"--all=") :])
         else:
             asked.words.append(word)
     return asked
+
+
+def number_of(word: bytes) -> int:
+    """A number of errors, or 0 if it is none that can be shown."""
+    return int(word) if word.isdigit() and len(word) < 4 and int(word) <= RUNS else 0
 
 
 def misplaced(asked: Asked) -> Optional[str]:
@@ -58,7 +75,7 @@ def misplaced(asked: Asked) -> Optional[str]:
     for option, actions in GO_WITH.items():
         if getattr(asked, OPTIONS[option.encode()]) and action not in actions:
             return f"{option} goes with {', '.join([*actions[:-2], ' and '.join(actions[-2:])])}"
-    return None
+    return None if asked.most else f"--all= takes how many errors are shown, from 1 to {RUNS}"
 
 
 # The program
@@ -66,6 +83,7 @@ def misplaced(asked: Asked) -> Optional[str]:
 
 def found_program(asked: Asked) -> Optional[Program]:
     """The program that answers without being made first."""
+    kept.sweep()
     if asked.has_unproved:
         return program.unproved()
     return program.proved() if asked.has_proved else program.ready()

@@ -6,6 +6,7 @@ import subprocess
 import time
 from typing import Dict, Iterator, List, Optional, Sequence, Set, Tuple
 
+from .child import started_group
 from .places import CRATE, CRATES, IS_INSTALLED, PROGRAM, TOP
 from .say import NO_PROGRAM, put_err, say
 
@@ -104,7 +105,9 @@ def prove(name: str) -> Tuple[str, bool]:
 def kit_says(words: Sequence[str], name: str) -> "subprocess.CompletedProcess[str]":
     """Runs the kit in a crate, and takes what it prints."""
     how = {"stdin": subprocess.DEVNULL, "stdout": subprocess.PIPE, "stderr": subprocess.STDOUT, "errors": "replace"}
-    return subprocess.run(words, cwd=CRATES / name, **how)
+    with started_group(words, cwd=CRATES / name, **how) as kit:
+        said = str(kit.communicate()[0])
+    return subprocess.CompletedProcess(words, kit.returncode, said)
 
 
 def newer_source() -> Optional[str]:

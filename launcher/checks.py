@@ -22,15 +22,21 @@ class Check:
 def check(program: Program, cell: Cell, changed: Mapping[Path, bytes] = {}, seconds: float = 60) -> Check:
     """Checks a cell. `changed` has texts in place of those of files (resolved paths). OSError, TimeoutExpired."""
     if not changed:
-        return made(program, cell.script, {}, seconds)
+        return made(program, cell.script, named(cell), seconds)
     with tempfile.TemporaryDirectory(prefix="rapid-cell-") as folder:
         script, names = copy(cell, changed, Path(folder))
-        return made(program, script, names, seconds)
+        return made(program, script, {**names, **named(cell)}, seconds)
+
+
+def named(cell: Cell) -> Dict[bytes, bytes]:
+    """The name of the script, by that which the program is given."""
+    return {b"./" + os.fsencode(cell.script.name): os.fsencode(cell.script)}
 
 
 def made(program: Program, script: Path, names: Mapping[bytes, bytes], seconds: float) -> Check:
-    """Checks a script. `names` has the names that modules had before they were copied."""
-    ran = answer(program, ["check", script.name], script.parent, seconds)
+    """Checks a script. `names` has the names that files had before they were copied."""
+    # A name that begins with a dash would be taken for an option.
+    ran = answer(program, ["check", f"./{script.name}"], script.parent, seconds)
     refusal = parse(ran.err)
     if refusal and refusal.name in names:
         refusal = replace(refusal, name=names[refusal.name])

@@ -35,7 +35,7 @@ _rapid_cell() {{
         local IFS=$'\\n'
         compopt -o filenames 2>/dev/null
         COMPREPLY=($(compgen -d -- "$word")) ;;
-    explain) COMPREPLY=($(compgen -W "{words}" -- "$word")) ;;
+    explain|examples) COMPREPLY=($(compgen -W "{words}" -- "$word")) ;;
     completion) COMPREPLY=($(compgen -W "{shells}" -- "$word")) ;;
     esac
 }}
@@ -63,7 +63,7 @@ _rapid_cell() {{
     {takes_cell}) _files -g '*.toml' ;;
     {takes_history}) _files ;;
     {takes_folders}) _files -/ ;;
-    explain) compadd -- {words} ;;
+    explain|examples) compadd -- {words} ;;
     completion) compadd -- {shells} ;;
     esac
 }}

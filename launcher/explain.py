@@ -31,7 +31,9 @@ def explain(words: Sequence[bytes]) -> int:
     word = os.fsdecode(words[0])
     found = list(parts_for(word))
     if not found:
-        near = actions.nearest(word, known_words()) if len(word) > 2 else None
+        # Few mistype the first letter; most words that differ there mean something else.
+        alike = [it for it in known_words() if it[:1].lower() == word[:1].lower()]
+        near = actions.nearest(word, alike) if len(word) > 2 else None
         return wrong(f"nothing is known about the word {word!a}{f': did you mean {near}?' if near else ''}")
     put_out("\n".join("".join(f"{line}\n" for line in (place, *lines)) for place, lines in found))
     return 0

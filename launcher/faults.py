@@ -11,6 +11,7 @@ from pathlib import Path
 from typing import Dict, List, Mapping, Optional
 
 from . import consequences, form_mends, name_mends, names, script_mends
+from .asked import RUNS
 from .checks import Check, check
 from .draft import CannotMend, Draft, Taint, simplify_datum
 from .program import Program
@@ -18,9 +19,6 @@ from .refusals import Kind, Refusal
 from .texts import Cell, modules_of, offset_of, read
 from .tokens import index_at
 
-MOST = 50
-# How often a cell is checked at most.
-RUNS = 400
 FORM = frozenset("BadByte OpenString BadEscape LongString LongName BadLiteral OpenHeader Syntax LeftOut TooDeep".split())
 OF_TASK = frozenset(("NoMain", "DataRange"))
 STUB = "MODULE stub_{0} PROC main() ENDPROC ENDMODULE"
@@ -46,8 +44,8 @@ class Found:
     status: int = 0
 
 
-def all_faults(program: Program, cell: Cell, changed: Mapping[Path, bytes] = {}, most: int = MOST) -> Found:
-    """The errors of a cell. OSError, TimeoutExpired if the program cannot be run."""
+def all_faults(program: Program, cell: Cell, changed: Mapping[Path, bytes] = {}, most: int = RUNS) -> Found:
+    """The errors of a cell, as many as are found. OSError, TimeoutExpired if the program cannot be run."""
     return Search(program, cell, changed, most).run()
 
 

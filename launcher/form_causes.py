@@ -32,7 +32,8 @@ def of_byte(seen: View) -> Own:
         except UnicodeDecodeError:
             continue
         if character.isprintable():
-            return Own(f"{character!r} is allowed only in comments", notes_on_byte(character))
+            notes = notes_on_byte(character)
+            return Own(f"{character!r} is allowed only in comments", notes, bool(notes))
         break
     return Own(f"the byte {data[0]:02X} is allowed only in comments" if data else "")
 

@@ -123,13 +123,25 @@ def mend_form(draft: Draft, k: int) -> None:
     elif "rest" in rules:
         simplify_datum(draft, k)
     elif before.text == "ERROR" and draft.tokens[k].text == "(":
-        past = next((n + 1 for n in range(k, len(draft.tokens)) if draft.tokens[n].text == ")"), k)
-        draft.blank_tokens(k, past)
+        draft.blank_tokens(k, past_error_list(draft, k))
     elif ";" in expected and is_new_line:
         # Its end is missing.
         draft.blank_tokens(first + started(expected[";"]), k)
+    elif draft.tokens[k].text == "ERROR" and any(it.text == "ERROR" for it in draft.tokens[first:k]):
+        # The statements of a second ERROR part are checked as those of the first.
+        draft.blank_tokens(k, past_error_list(draft, k + 1))
     else:
         leave_in_list(draft, k, first, expected)
+
+
+def past_error_list(draft: Draft, k: int) -> int:
+    """The number of the token after the list of an ERROR part, if it begins at a token, else that token's."""
+    if k >= len(draft.tokens) or draft.tokens[k].text != "(":
+        return k
+    past = next((n + 1 for n in range(k, len(draft.tokens)) if draft.tokens[n].text in (")", ";", *ENDS)), k)
+    if draft.tokens[past - 1].text != ")":
+        raise CannotMend
+    return past
 
 
 def leave_in_list(draft: Draft, k: int, first: int, expected: Dict[str, Tuple[grammar.Open, ...]]) -> None:

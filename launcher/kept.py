@@ -10,7 +10,6 @@ import hashlib
 import os
 import re
 import shutil
-import signal
 import subprocess
 import tempfile
 import time
@@ -18,7 +17,7 @@ from pathlib import Path
 from typing import Iterator, List, Optional, Sequence
 
 from . import build
-from .child import started
+from .child import end_group, started_group
 from .places import CRATE, CRATES, TOP
 from .say import NO_PROGRAM, put_err, say, write
 
@@ -26,6 +25,8 @@ from .say import NO_PROGRAM, put_err, say, write
 MOST = 3
 # The mark that the kit gave no program to keep.
 NONE = ".none"
+# How the folders begin in which programs are made.
+ROOM = "rapid-cell-"
 
 
 def place() -> Path:
@@ -70,6 +71,17 @@ def kit() -> str:
     return f"{found} {os.stat(found).st_mtime_ns}" if found else ""
 
 
+def sweep() -> None:
+    """Removes what was left by launchers that were killed while they made a program, unless one makes one now."""
+    left = list(folder().glob(ROOM + "*"))
+    if not left:
+        return
+    with contextlib.suppress(OSError), open(folder() / "lock", "w") as lock:
+        fcntl.flock(lock, fcntl.LOCK_EX | fcntl.LOCK_NB)
+        for it in left:
+            shutil.rmtree(it, ignore_errors=True)
+
+
 def make() -> Optional[Path]:
     """Makes the unproved program and keeps it. None if the kit does not make it, or gives no program to keep."""
     file = place()
@@ -103,7 +115,7 @@ def in_turn(file: Path) -> Iterator[None]:
 
 def is_made(file: Path) -> bool:
     """Makes the program and puts it in its place. Returns whether it could be taken from the kit."""
-    with tempfile.TemporaryDirectory(prefix="rapid-cell-", dir=file.parent) as room:
+    with tempfile.TemporaryDirectory(prefix=ROOM, dir=file.parent) as room:
         copy, said = Path(room, "program"), Path(room, "said")
         is_waiting = copied(copy, said, Path(room))
         if copy.exists() and is_program(copy):
@@ -125,8 +137,8 @@ def copied(copy: Path, said: Path, room: Path) -> bool:
     os.mkfifo(pipe)
     work.mkdir()
     words = ["rt", "try", "--steps", "1", "--", "check", str(pipe)]
-    how = {"cwd": CRATES / CRATE, "env": {**os.environ, "TMPDIR": str(work)}, "start_new_session": True}
-    with said.open("wb") as out, started(words, stop, stdin=subprocess.DEVNULL, stdout=out, stderr=out, **how) as kit:
+    how = {"cwd": CRATES / CRATE, "env": {**os.environ, "TMPDIR": str(work)}}
+    with said.open("wb") as out, started_group(words, stdin=subprocess.DEVNULL, stdout=out, stderr=out, **how) as kit:
         end = reader_of(pipe, kit)
         if end is not None:
             found = [it for it in work.rglob("*") if it.is_file() and os.access(it, os.X_OK)]
@@ -134,7 +146,7 @@ def copied(copy: Path, said: Path, room: Path) -> bool:
                 shutil.copy2(found[0], copy)
                 copy.chmod(0o700)
             os.close(end)
-        stop(kit)
+        end_group(kit)
     return end is not None
 
 
@@ -159,16 +171,6 @@ def is_program(file: Path) -> bool:
     return (ran.returncode, ran.stderr) == (2, b"rapid_cell: words 0\n")
 
 
-def stop(kit: "subprocess.Popen[bytes]", ended: Optional[BaseException] = None) -> None:
-    """Ends the kit and what it started, which are a group of their own."""
-    for sent in (signal.SIGTERM, signal.SIGKILL):
-        with contextlib.suppress(ProcessLookupError):
-            os.killpg(kit.pid, sent)
-        with contextlib.suppress(subprocess.TimeoutExpired):
-            kit.wait(10)
-            break
-
-
 def remove_old() -> None:
     """Removes all but the last programs that were made."""
     kept = sorted(folder().glob("unproved-*"), key=lambda it: it.stat().st_mtime)
@@ -188,23 +190,24 @@ def try_once(words: Sequence[bytes]) -> int:
     # The kit runs it in a folder of its own.
     cell = given if words[0] == b"load" else os.path.abspath(given)
     whole: List[bytes] = [*words[:at], cell, *words[at + 1 :]]
-    ran = subprocess.run(
+    with started_group(
         [b"rt", b"try", b"--", *whole],
         cwd=CRATES / CRATE,
         stdin=subprocess.DEVNULL,
         stdout=subprocess.PIPE,
         stderr=subprocess.PIPE,
-    )
-    ended = re.search(rb"^run=ended status=(\d+) ", ran.stderr, re.M)
+    ) as kit:
+        out, err = kit.communicate()
+    ended = re.search(rb"^run=ended status=(\d+) ", err, re.M)
     if not ended:
-        put_err(ran.stderr)
-        if b"within the time limit" in ran.stderr:
+        put_err(err)
+        if b"within the time limit" in err:
             say("it ran longer than the kit allows: RT_SECONDS=600 before ./rapid_cell allows 600 seconds; fewer `steps` end it sooner")
         else:
             say("the kit did not run it to its end: its messages are above, and docs/CELL_SCRIPT.md has its limits")
         return NO_PROGRAM
-    write(1, ran.stdout)
-    for line in ran.stderr.splitlines(keepends=True):
+    write(1, out)
+    for line in err.splitlines(keepends=True):
         if line.startswith(b"rapid_cell: "):
             put_err(as_given(line, cell, given))
     return int(ended[1])

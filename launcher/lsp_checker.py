@@ -8,6 +8,7 @@ from pathlib import Path
 from typing import Callable, Dict, List, Mapping, Optional, Tuple
 
 from . import faults, program
+from .asked import MOST
 from .checks import Check, check
 from .lsp_diagnostics import Diagnostic, diagnostic
 from .lsp_files import Files, stamps
@@ -30,7 +31,7 @@ class Search(faults.Search):
     """The search for all errors, which ends with NotWanted once it is no longer wanted."""
 
     def __init__(self, ready: Program, cell: Cell, changed: Mapping[Path, bytes], is_wanted: Callable[[], bool]) -> None:
-        super().__init__(ready, cell, changed, faults.MOST)
+        super().__init__(ready, cell, changed, MOST)
         self.is_wanted = is_wanted
 
     def checked(self) -> Check:

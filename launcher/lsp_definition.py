@@ -3,7 +3,7 @@ import re
 from pathlib import Path
 from typing import Any, Dict, Iterator, List, Tuple
 
-from . import symbols, toml_places
+from . import symbols, toml_places, toml_values
 from .lsp_files import Files
 from .lsp_text import Text
 from .texts import Cell, Module
@@ -35,8 +35,16 @@ def quoted_at(text: bytes, at: int) -> str:
     end = text.find(b"\n", at)
     for found in QUOTED.finditer(text, start, end if end >= 0 else len(text)):
         if found.start() <= at <= found.end():
-            return toml_places.spelled(found[0])
+            return read_quoted(found[0])
     return ""
+
+
+def read_quoted(text: bytes) -> str:
+    """The value of a text in quotes; nothing if it is none."""
+    try:
+        return toml_values.string(text, 0)[0]
+    except toml_values.NoToml:
+        return ""
 
 
 def tables_named(cell: Cell, name: str) -> Iterator[Tuple[int, int]]:

@@ -9,7 +9,7 @@ from .arm_operations import Made
 from .code import Op
 from .history import Event
 from .memory import Frame
-from .operations import Asking, Fault
+from .operations import Asking, Fault, Unknown
 from .raising import CALLED, STARTED, TRAPPED, Code, Link, Origin, Raising, Running, Saved
 from .values import LARGEST, OutOfRange, Raised, shown
 
@@ -43,7 +43,10 @@ class Machine(Raising):
         self.asked = next(self.life)
 
     def operation(self, op: Op) -> Tuple[Callable[[Op], Optional[Asking]], Op]:
-        return getattr(self, f"op_{op.name.lower()}"), op
+        does = getattr(self, f"op_{op.name.lower()}", None)
+        if does is None:
+            raise Unknown(f"the operation {op.name}")
+        return does, op
 
     def take(self, event: Event) -> None:
         """Goes on by the answer of an event. ValueError if it is not what the task asks."""

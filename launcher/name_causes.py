@@ -81,8 +81,20 @@ def of_component(seen: View) -> Own:
 
 
 def of_type_clash(seen: View) -> Own:
+    valueless = of_valueless(seen)
+    if valueless:
+        return valueless
     kind = type_at(seen)
     return Own(f"this is {kind}" if kind else "", [*of_declaration(seen), *of_call(seen)])
+
+
+def of_valueless(seen: View) -> Optional[Own]:
+    """The first value of a datum whose type has no values, as ABB's controller takes it: `VAR wzstationary z := [0];`."""
+    start = next((n for n in range(min(seen.k, len(seen.tokens)) - 1, -1, -1) if seen.tokens[n].text in ("VAR", ";")), 0)
+    if seen.k < start + 3 or seen.tokens[start].text != "VAR" or seen.tokens[start + 1].text.lower() not in names.VALUELESS:
+        return None
+    kind, name = seen.tokens[start + 1].text, seen.tokens[start + 2].text
+    return Own(f"a datum of {kind} has no first value", [f"write instead: `VAR {kind} {name};`"], True)
 
 
 def type_at(seen: View) -> str:

@@ -17,6 +17,8 @@ COMPONENTS: Dict[str, Tuple[str, ...]] = {
     "speeddata": ("v_tcp", "v_ori", "v_leax", "v_reax"),
     "tasks": ("taskname",),
 }
+# The types that have no values.
+VALUELESS = frozenset(("intnum", "syncident", "shapedata", "wztemporary", "wzstationary"))
 # What a label follows, besides a routine's head.
 BEFORE_LABEL = frozenset("; : THEN ELSE DO ENDIF ENDFOR ENDWHILE ENDTEST ERROR )".split())
 # The calls that take the name of a signal, with the kind that it has.

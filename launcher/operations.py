@@ -3,7 +3,7 @@
 One that asks the cell yields its request, or the beginning of it with a space behind, and is sent the answer.
 """
 import functools
-from typing import Any, Dict, Generator, List, Optional
+from typing import Any, Callable, Dict, Generator, List, Optional
 
 from . import values
 from .code import Op
@@ -13,6 +13,17 @@ from .values import ABSENT, UNIT, Mark, Raised, shown
 
 Asking = Generator[str, str, None]
 pushed = functools.lru_cache(maxsize=10_000)(values.read_value)
+# What the functions of one value make of it.
+OF_ONE_VALUE: Dict[str, Callable[[Any], Any]] = {
+    "Abs": abs,
+    "Trunc": values.truncated,
+    "StrLen": lambda text: len(text) * UNIT,
+    "TestDI": lambda value: value == UNIT,
+}
+
+
+class Unknown(Exception):
+    """An operation or a function of the program that has no rule here. It holds its name in words."""
 
 
 class Fault(Exception):
@@ -116,11 +127,10 @@ class Operations(Memory):
         value = self.stack.pop()
         if op.args == "NumToStr":
             self.stack.append(values.num_text(self.stack.pop(), value))
-        elif op.args == "TestDI":
-            self.stack.append(value == UNIT)
+        elif op.args in OF_ONE_VALUE:
+            self.stack.append(OF_ONE_VALUE[op.args](value))
         else:
-            known = {"Abs": abs, "Trunc": values.truncated, "StrLen": lambda text: len(text) * UNIT}
-            self.stack.append(known.get(op.args, lambda same: same)(value))
+            raise Unknown(f"the function {op.args}")
 
     # Signals, and what is written for the operator
 

@@ -9,7 +9,7 @@ from pathlib import Path
 from typing import Callable, Dict, Iterator, Optional, Sequence, Union
 
 from . import kept
-from .child import started
+from .child import started, with_parent
 from .places import FETCH, IS_INSTALLED, PROGRAM
 from .say import NO_PROGRAM, put_err, say
 
@@ -66,6 +66,7 @@ def answer(program: Program, words: Sequence[Word], folder: Optional[Path] = Non
         stdin=subprocess.DEVNULL,
         stdout=subprocess.PIPE,
         stderr=subprocess.PIPE,
+        preexec_fn=with_parent(),
         timeout=seconds,
     )
     return Answer(ran.returncode, ran.stdout, ran.stderr)

@@ -7,6 +7,7 @@ from typing import Callable, Dict, List, Optional, Sequence, Tuple
 from . import build, hints
 from .asked import Asked, ended, found_program, helped, made_program
 from .events import Run, is_history, read_events, told
+from .operations import Unknown
 from .program import Answer, Program, read
 from .say import BROKEN, NO_PROGRAM, REFUSED, is_coloured, put_err, put_out, say, wrong
 
@@ -147,6 +148,9 @@ def done(asked: Asked, found: Program, do: Callable[[Program, Path], Answer]) ->
             return REFUSED
     try:
         answer = do(found, Path(os.fsdecode(asked.words[1])))
+    except Unknown as error:
+        say(f"the launcher does not know {error} of the program, so it cannot follow the run: fetch the checkout again")
+        return BROKEN
     except (ValueError, LookupError) as error:
         say(f"what the program prints does not fit the files of the cell ({error}): was one of them changed meanwhile?")
         return BROKEN

@@ -3,16 +3,12 @@
 The script is one that the program accepts. Angles are in thousandths of a degree.
 """
 import functools
-import re
 from dataclasses import dataclass
 from typing import Dict, List, Mapping, Optional, Tuple
 
 from . import toml_places
 from .toml_places import Key
 
-INTEGER = re.compile(rb"[+-]?(?:0x[0-9A-Fa-f_]+|0o[0-7_]+|0b[01_]+|[0-9][0-9_]*)")
-ARRAY = re.compile(rb"\[((?:[^\]#]|#[^\n]*)*)\]")
-COMMENT = re.compile(rb"#[^\n]*")
 # The axes of a robot; an arm may have external ones besides.
 AXES = 6
 # How many events may be counted if the script does not say.
@@ -105,7 +101,6 @@ def parse(text: bytes) -> Script:
 
 class Reader:
     def __init__(self, text: bytes) -> None:
-        self.text = text
         self.tables: Dict[str, Dict[int, Row]] = {}
         # The keys outside the tables.
         self.top: Row = {}
@@ -145,20 +140,19 @@ class Reader:
     def number(self, row: Row, key: str, default: Optional[int] = None) -> int:
         if key not in row and default is not None:
             return default
-        found = INTEGER.match(self.text, row[key].value_at)
-        if not found:
-            raise ValueError(f"{key} is no integer")
-        return integer(found[0])
+        return integer(row[key].value, key)
 
     def numbers(self, row: Row, key: str) -> Axes:
-        found = ARRAY.match(self.text, row[key].value_at)
-        if not found:
+        given = row[key].value
+        if not isinstance(given, list):
             raise ValueError(f"{key} is no array")
-        return tuple(integer(it) for it in INTEGER.findall(COMMENT.sub(b"", found[1])))
+        return tuple(integer(it, key) for it in given)
 
 
-def integer(text: bytes) -> int:
-    return int(text.replace(b"_", b""), 0)
+def integer(value: toml_places.Value, key: str) -> int:
+    if not isinstance(value, int) or isinstance(value, bool):
+        raise ValueError(f"{key} is no integer")
+    return value
 
 
 @functools.lru_cache(maxsize=100_000)

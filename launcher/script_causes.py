@@ -24,7 +24,7 @@ def of(refusal: Refusal, cell: Cell) -> List[str]:
     # The first part of a cause is the rule; the others are exceptions, and what the key takes says more, except of names.
     label = re.split(r"[;.] ", cause)[0]
     is_whole = label == cause or (known and refusal.rule != "Name")
-    notes = [*([] if is_whole else [cause]), *known, *of_name(refusal, cell)]
+    notes = [*([] if is_whole else [cause]), *known, *of_name(refusal, cell), *of_version(refusal, cell)]
     # What a key takes says more than the example of another key.
     if not known or refusal.rule in ("Twice", "NoSuch", "Pair"):
         notes.append(f"write instead: {row.get('Write instead')}")
@@ -72,3 +72,16 @@ def of_name(refusal: Refusal, cell: Cell) -> List[str]:
     if near and given and near.lower() != given.lower():
         return [f"did you mean `{near}`?"]
     return [f"the script's {kind}s are {', '.join(names)}" if names else f"the script has no {kind}"]
+
+
+def of_version(refusal: Refusal, cell: Cell) -> List[str]:
+    """That a script of version 1 has more axes or tasks than that version allows, and not more than the next one does."""
+    keys = {it.path: it for it in toml_places.keys_of(cell.text)}
+    version = keys.get(("version",))
+    if refusal.rule != "Range" or not version or version.value != 1:
+        return []
+    arm = keys.get(tuple(re.findall(r"[^.\[\]]+", refusal.key)))
+    tasks = len({path[1] for path in keys if len(path) > 1 and path[0] == "task"})
+    axes = len(arm.value) if arm and isinstance(arm.value, list) else 0
+    is_later = refusal.key.endswith(".arm") and 6 < axes <= 12 or refusal.key == "task" and 8 < tasks <= 16
+    return ["write instead: `version = 2`, which allows up to twelve axes and 16 tasks"] if is_later else []

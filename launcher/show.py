@@ -8,7 +8,7 @@ import zlib
 from pathlib import Path
 from typing import Any, Dict, Iterator, List, Optional, Tuple
 
-from . import explain, hints, program, why_faults
+from . import explain, hints, page_file, program, why_faults
 from .coverage import Coverage
 from .events import Run, is_open, read_events
 from .interrupt_words import Courses
@@ -27,9 +27,6 @@ SCRIPTS = ("run.js", "view.js", "rows.js", "charts.js", "choices.js", "picture.j
 # The types of columns; one of bytes has none.
 TYPES = {"I": "u32", "i": "i32"}
 PART = re.compile(r"\{(style|cell|columns|script|policy)\}")
-# The line of a page by which `show` knows its own.
-MARK = b'<meta name="generator" content="rapid_cell show">'
-HEAD = 1024
 
 
 class Shown:
@@ -70,7 +67,7 @@ class Shown:
 def write_page(found: Program, name: bytes, file: Path, run: Run, page: Path, other: Optional[bytes] = None) -> Answer:
     """Runs the cell, or reads a history of it, and writes the page, whose name is the answer. The status is that of the run, or of
     `audit`, unless the page is not written. With another history the page shows where the two part."""
-    if not may_be_written(page):
+    if not page_file.may_be_put(page):
         say(f"{page} is there and is no page of show: remove it, or give another name with -o")
         return Answer(REFUSED, b"", b"")
     lines: List[str] = []
@@ -88,7 +85,7 @@ def write_page(found: Program, name: bytes, file: Path, run: Run, page: Path, ot
         if audited.status:
             return audited
     try:
-        page.write_text(page_of(shown, "history" if run.history is not None else run.action.decode()), encoding="utf-8")
+        page_file.put(page, page_of(shown, "history" if run.history is not None else run.action.decode()))
     except OSError as error:
         say(f"{page} could not be written ({error.strerror})")
         return Answer(NOT_PRINTED, b"", answer.err)
@@ -99,17 +96,6 @@ def page_for(file: Path) -> Path:
     """The page of a cell, in the current folder: named as the script's folder, or as the script if that is not a `cell.toml`."""
     name = file.resolve().parent.name if file.name == "cell.toml" else file.stem
     return Path(f"{name or 'cell'}.html")
-
-
-def may_be_written(page: Path) -> bool:
-    """Whether nothing is at a page's place but an earlier page."""
-    try:
-        with page.open("rb") as text:
-            return MARK in text.read(HEAD)
-    except FileNotFoundError:
-        return True
-    except OSError:
-        return False
 
 
 def page_of(shown: Shown, action: str) -> str:

@@ -14,6 +14,8 @@ from .texts import read
 # How many characters are printed at once.
 BLOCK = 65_536
 Cells = List[Union[str, int]]
+# How a text begins that a spreadsheet takes for a formula, or for the mark of a text.
+FORMULA = ("=", "+", "-", "@", "'")
 
 
 def print_table(file: Path, lines: Iterator[str]) -> None:
@@ -51,9 +53,14 @@ def rows_of(cell: Script, lines: Iterable[str]) -> Iterator[Cells]:
             axes = event.request.split()[1:]
             yield [number, event.actor, "setpoint", *axes, *none[len(axes) :], "", "", ""]
         elif event.kind == "Say":
-            yield [number, event.actor, "text", *none, "", "", history.said_by(event.request)]
+            yield [number, event.actor, "text", *none, "", "", as_text(history.said_by(event.request))]
         elif event.kind == "End":
             ends[event.actor] = number
         for signal, value in replay.take(event):
             yield [number, event.actor, "signal", *none, cell.signals[signal].name, value, ""]
         number += 1
+
+
+def as_text(said: str) -> str:
+    """A text as a spreadsheet takes it as one: with an apostrophe before what it would take for a formula."""
+    return f"'{said}" if said.startswith(FORMULA) else said

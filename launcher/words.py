@@ -164,6 +164,18 @@ def serve(words: Sequence[bytes]) -> int:
     return serve(Path(os.fsdecode(words[0])))
 
 
+def examples(words: Sequence[bytes]) -> int:
+    from .examples import examples
+
+    return examples(words)
+
+
+def new(words: Sequence[bytes]) -> int:
+    from .new import new
+
+    return new(words)
+
+
 OWN: Dict[bytes, Callable[[Sequence[bytes]], int]] = {
     b"help": help_of,
     b"version": version,
@@ -173,6 +185,8 @@ OWN: Dict[bytes, Callable[[Sequence[bytes]], int]] = {
     b"proved": proved,
     b"completion": completion,
     b"import": import_backup,
+    b"examples": examples,
+    b"new": new,
 }
 
 
@@ -193,11 +207,16 @@ def of_program(asked: Asked) -> int:
     found = found or made_program(asked)
     if not found:
         return NO_PROGRAM if asked.has_proved or kept.is_kept_by_kit() else kept.try_once(words)
-    if asked.is_plain and not asked.has_all:
+    if asked.is_plain and not asked.has_all and not asked.has_abb:
         return program.become(found, words)
     if found.is_proved and not asked.is_plain:
         build.say_where_stale()
-    return ended(asked, found, all_checked(asked, found) if asked.has_all else run(asked, found))
+    status = all_checked(asked, found) if asked.has_all else run(asked, found)
+    if asked.has_abb and status == 0:
+        from .to_abb import tell
+
+        tell(Path(os.fsdecode(words[1])))
+    return ended(asked, found, status)
 
 
 def run(asked: Asked, found: Program) -> int:
@@ -226,7 +245,7 @@ def all_checked(asked: Asked, found: Program) -> int:
     from .shown import script_of
 
     script = script_of(asked.words)
-    return check_all(found, asked.words, script, asked.is_plain) if script else run(asked, found)
+    return check_all(found, asked, script) if script else run(asked, found)
 
 
 def refused_place(words: Sequence[bytes]) -> Optional[int]:

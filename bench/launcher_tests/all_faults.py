@@ -98,9 +98,52 @@ def try_shown():
         module.write_bytes(b"MODULE Weld\n  PROC main()\n" + b"    MoveL p, v10, fine, tool0;\n" * 60 + b"  ENDPROC\nENDMODULE\n")
         status, out, err = ask(*options, "check", "--all", "--plain", script)
         compare("fifty errors at most", (status, len(err.splitlines())), (4, 50))
+        status, out, err = ask(*options, "check", "--all=20", script)
+        shown = len([it for it in err.splitlines() if it.startswith("rapid_cell: ")])
+        compare("twenty of them", (status, shown, "launcher: 40 of them are not shown: 40 NoName; --all=60 shows them too" in err), (4, 20, True))
+        status, out, err = ask(*options, "check", "--all=60", script)
+        compare("all of them", (status, err.count("rapid_cell: module"), "are not shown" in err), (4, 60, False))
         module.write_bytes(b"MODULE Weld\n  PROC main()\n    EXIT;\n  ENDPROC\nENDMODULE\n")
         compare("no error", ask(*options, "check", "--all", "--plain", script), (0, "accepted\n", ""))
         module.unlink()
         status, out, err = ask(*options, "check", "--all", script)
         compare("no module", (status, "there is no file" in err, "Weld.mod was not checked" in err), (5, True, True))
-    ask(*options, "check", "--all", "--history")
+    for word in ("--all=", "--all=0", "--all=401", "--all=x", "--all=-1"):
+        status, out, err = ask(*options, "check", word, CELLS / "welding/cell.toml")
+        compare(word, (status, out, "--all= takes how many errors are shown, from 1 to 400" in err), (2, "", True))
+    compare("--all without check", ask(*options, "round", "--all=5", "a.toml")[0], 2)
+
+
+# ERROR parts as ABB's controller has them, with lists and several of them; what is wrong is in these lines.
+PARTS = """MODULE M
+  PROC main()
+    one;
+  ERROR (ERR_WAIT_MAXTIME, 4)
+    two;
+    RETRY;
+  ERROR (5)
+    three;
+    TRYNEXT
+  ERROR
+    four;
+    RAISE;
+  ENDPROC
+  TRAP other
+    five;
+  ERROR
+    six;
+  ERROR
+    seven;
+  ENDTRAP
+ENDMODULE
+"""
+WRONG = "3:5 NoName,4:9 Syntax,5:5 NoName,7:3 Syntax,8:5 NoName,10:3 Syntax,10:3 Syntax,11:5 NoName,15:5 NoName,17:5 NoName,18:3 Syntax,19:5 NoName"
+
+
+def try_error_parts():
+    """Neither a list of an ERROR part nor a second part ends the search. The script's name begins with a dash."""
+    with tempfile.TemporaryDirectory() as folder:
+        Path(folder, "-cell.toml").write_text('version = 1\n[[task]]\nname = "A"\nmodules = ["m.mod"]\n')
+        Path(folder, "m.mod").write_text(PARTS)
+        wanted = "".join(f"rapid_cell: module m.mod {it}\n" for it in WRONG.split(","))
+        compare("ERROR parts", ask(*options, "check", "--all", "--plain", "./-cell.toml", cwd=folder), (4, "", wanted))

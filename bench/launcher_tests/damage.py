@@ -185,15 +185,10 @@ def try_unreadable(frame):
 
 
 def try_pythons():
-    """A Python that is too old; one without a reader of TOML; other ones that are here."""
+    """A Python that is too old."""
     old = "import sys; sys.version_info = (3, 7, 1); sys.argv = ['rapid_cell']; exec(open(sys.argv[0]).read())"
     ran = subprocess.run([sys.executable, "-c", old], cwd=TOP, stdout=subprocess.PIPE, stderr=subprocess.PIPE)
     compare("an old Python", (ran.returncode, text_of(ran.stderr)), (124, "launcher: Python 3.8 or later is needed, and this is 3.7\n"))
-    with tempfile.TemporaryDirectory() as folder:
-        script = Path(folder, "cell.toml")
-        script.write_text("version 1\n")
-        status, out, err = ask(*options, "check", script, before=lambda: sys.modules.update(tomllib=None))
-        compare("no reader of TOML", (status, "from Python 3.11 on it is shown" in err), (3, True))
 
 
 def try_interrupted_build():

@@ -11,7 +11,7 @@ ABB = Path(__file__).resolve().parent / "abb"
 # a controller's configuration names.
 OF_CELLS = ("partdata", "program", "length", "good", "report", "STN1")
 MORE = "cornerzone Conc edge 101 41 ERR_UNKINO S T E P0 D0 G0 C read module words script long v1000 num rax_3 eax_f taskname history A robax NoEOffs trans Quick"
-OWN = "check round run list load audit state clearance trace migrate table show cover watch explain build lsp completion version help --history --all --run --source --lcov -o --plain --proved --unproved"
+OWN = "check round run list load audit state clearance trace migrate table show cover watch explain examples new build lsp completion version help --history --all --abb --tasks --run --source --lcov -o --plain --proved --unproved"
 
 
 def try_explain():
@@ -75,6 +75,9 @@ def try_command():
     status, out, err = launch("explain", "CornerZone")
     compare("explain CornerZone", (status, out.startswith(cause), err), (0, True, ""))
     compare("explain nothing known", ask("explain", "zork")[:2], (2, ""))
+    for word in ("heartbeat", "deadlock"):
+        status, out, err = ask("explain", word)
+        compare(f"explain {word}", (status, out, "did you mean" in err), (2, "", False))
     compare("explain, did you mean", "did you mean CornerZone?" in ask("explain", "CornerZon")[2], True)
     compare("explain without a word", ask("explain")[:2], (2, ""))
     # Nobody reads it.

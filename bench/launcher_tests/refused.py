@@ -1,5 +1,4 @@
 """Refusals, shown with the line, a caret, the cause, and what to write instead."""
-import importlib.util
 import os
 import pty
 import re
@@ -55,6 +54,10 @@ STATEMENTS = (
     ("^Incr counter, 2;", "too few or too many arguments, or more than 32", ["Incr takes VAR or PERS num"]),
     ("TPWrite text^\\Foo;", "TPWrite does not take `\\Foo` here", ["TPWrite takes string", "write instead: the options"]),
     ("WaitDI di_part, 1^\\MaxTime:=5;", "WaitDI does not take `\\MaxTime` here", ["WaitDI takes signaldi", "write instead: an input of the script that ends"]),
+    ("WaitTime^\\InPos, 1;", "WaitTime does not take `\\InPos` here", ["write instead: nothing: leave it out, since each move ends in its place"]),
+    ("SetDO^\\SDelay:=1, do_lamp, 1;", "SetDO does not take `\\SDelay` here", ["write instead: nothing: leave it out, since there is no time"]),
+    ("^PulseDO do_lamp;", "`PulseDO` is an instruction of RAPID that is not supported", ["write instead: `Set`, a wait for what the pulse brings about, and `Reset`"]),
+    ("ISignalDI di_part, ^edge, counter;", "`edge` is a predefined datum of RAPID that is not supported", ["write instead: an order for 1, and another intnum's order for 0"]),
     ("WaitDI di_part, 1^\\Visualize;", "WaitDI does not take `\\Visualize` here", ["write instead: nothing: a wait ends"]),
     ("counter := here.^trans;", "`trans` is a component of types of RAPID that are not supported", ["write instead: a jointtarget"]),
     ("counter := here.^rax_9;", "no type here has a component `rax_9`", ["did you mean `rax_"]),
@@ -79,6 +82,9 @@ ITEMS = (
     ("VAR num ^do_lamp;", "`do_lamp` is a signal of the script", []),
     ("^RECORD part num mass; ENDRECORD", "RECORD is not supported", ["write instead:"]),
     ("VAR num places{2^,3};", "expected an operator or `}`, found the mark `,`", ["write instead: one dimension"]),
+    ("VAR wzstationary z := ^[0];", "a datum of wzstationary has no first value", ["write instead: `VAR wzstationary z;`"]),
+    ("VAR intnum door := ^0;", "a datum of intnum has no first value", ["write instead: `VAR intnum door;`"]),
+    ("PROC lamp(num a ^| num b) ENDPROC", "'|' is allowed only in comments", ["write instead: two routines"]),
     ("PROC put(^\\num part) ENDPROC", "found the mark `\\`", ["write instead: two routines"]),
     ("PROC put(num part^{*}) ENDPROC", "expected `,` or `)`, found the mark `{`", ["write instead: an array of the module"]),
     ("PROC put() ERROR ^(1, 2) ENDPROC", "expected a statement or `ENDPROC`, found the mark `(`", ["write instead: IF or TEST"]),
@@ -113,18 +119,22 @@ def try_module(folder, given, text, label, notes):
     whole = " ".join(it.strip(" =") for it in lines)
     for note in notes:
         compare(f"{given}: note {note}", note in whole, True)
+    compare(f"{given}: one thing to write instead", whole.count("write instead: ") < 2, True)
     if given in (STATEMENTS[0][0], ITEMS[0][0]):
         compare(f"{given}: plain", ask("--plain", *options, "check", "cell.toml", cwd=folder), (4, "", lines[0] + "\n"))
 
 
 SCRIPTS = (
-    ("version = 1", "version 1", "--> cell.toml:1:9", "Expected '=' after a key"),
+    ("version = 1", "version 1", "--> cell.toml:1:9", "expected `=` after a key"),
     ('"A"', '"A', "--> cell.toml:12:10", "perhaps a quote is missing"),
     ("[0, 0, 0, 0, 0, 0]", "[0, 0]", "--> cell.toml:14:1", "`arm` is optional: an array of six integers"),
     ('modules = ["m.mod"]', "", "--> cell.toml:11:1", "`modules` is an array of 1 to 16 texts"),
     ("arm = ", "arms = ", "--> cell.toml:14:1", "did you mean `arm`?"),
     ('kind = "do"', 'kind = "go"', "--> cell.toml:9:1", '`kind` is `"di"` for an input'),
     ('name = "A"', 'name = "do"', "--> cell.toml:12:1", "A name is a letter, then letters, digits and `_`"),
+    ("[0, 0, 0, 0, 0, 0]", "[0, 0, 0, 0, 0, 0, 0, 0, 0]", "--> cell.toml:14:1", "write instead: `version = 2`"),
+    ("[0, 0, 0, 0, 0, 0]", "[0, 0, 0, 0, 0, 0, 0, 0, 0, 0, 0, 0, 0]", "--> cell.toml:14:1", "`arm` is optional: an array of six integers"),
+    ("[[task]]", '[[task]]\nname = "B"\nmodules = ["m.mod"]\n' * 8 + "[[task]]", "--> cell.toml:11:1", "write instead: `version = 2`"),
     ("arm = ", '[[zone]]\nname = "z"\ntask = "B"\n#', "--> cell.toml:16:1", "the script's tasks are A"),
 )
 
@@ -133,9 +143,7 @@ def try_scripts():
     with tempfile.TemporaryDirectory() as folder:
         Path(folder, "m.mod").write_text(FRAME.format(item="", statement=""))
         script = Path(folder, "cell.toml")
-        # Python has a reader of TOML from 3.11 on.
-        some = SCRIPTS if importlib.util.find_spec("tomllib") else SCRIPTS[2:]
-        for one, other, place, said in some:
+        for one, other, place, said in SCRIPTS:
             script.write_text(SCRIPT.replace(one, other, 1))
             status, out, err = ask(*options, "check", "cell.toml", cwd=folder)
             whole = " ".join(it.strip(" =") for it in err.splitlines())

@@ -2,7 +2,9 @@
 import csv
 import os
 import subprocess
+import tempfile
 from decimal import Decimal
+from pathlib import Path
 
 from .common import EXAMPLES, ask, compare, options, program, text_of
 
@@ -58,7 +60,9 @@ def run_of(rows):
         if kind == "setpoint":
             lines.append(" ".join(["S", task, *(f"{Decimal(it):.3f}" for it in axes if it)]))
         elif kind in ("text", "end"):
-            lines.append(f"{'T' if kind == 'text' else 'E'} {task} {text}")
+            # An apostrophe at the front is the mark of a text.
+            said = text[1:] if kind == "text" and text.startswith("'") else text
+            lines.append(f"{'T' if kind == 'text' else 'E'} {task} {said}")
     return "".join(f"{line}\n" for line in lines)
 
 
@@ -101,3 +105,15 @@ def try_table_command():
     full = os.open("/dev/full", os.O_WRONLY)
     compare("table to a full device", ask(*options, "table", folder / "cell.toml", before=lambda: os.dup2(full, 1))[:2], (6, ""))
     os.close(full)
+
+
+def try_formulas():
+    """No text is a formula to a spreadsheet, whatever TPWrite writes; the mark is before the text, and the text is whole."""
+    texts = ("=1+1", "+1", "-1", "@SUM(1)", "'=1", "a=1", " =1", "1")
+    says = "".join(f'TPWrite "{it}";\n' for it in texts)
+    with tempfile.TemporaryDirectory() as folder:
+        Path(folder, "m.mod").write_text(f'MODULE M\nPROC main()\n{says}TPWrite ""\\Num:=-2.5;\nENDPROC\nENDMODULE\n')
+        Path(folder, "cell.toml").write_text('version = 1\n[[task]]\nname = "A"\nmodules = ["m.mod"]\n')
+        status, out, err = ask("--plain", *options, "table", Path(folder, "cell.toml"))
+        wanted = ["'=1+1", "'+1", "'-1", "'@SUM(1)", "''=1", "a=1", " =1", "1", "'-2.5"]
+        compare("texts that begin as formulas", (status, [it[-1] for it in csv.reader(out.splitlines()) if it[2] == "text"]), (0, wanted))

@@ -1,0 +1,8 @@
+MODULE Work
+  PERS bool finished := FALSE;
+
+  PROC main()
+    WaitDI di_end, 1;
+    finished := TRUE;
+  ENDPROC
+ENDMODULE
