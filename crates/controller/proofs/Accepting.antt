@@ -14,10 +14,11 @@ use Rattle.cell_assembly.specs.Cells.{Making}
 use Rattle.cell_assembly.specs.Made.{MadeCell, make_cell}
 use Rattle.accepted_cells.specs.Accepted.{AreChecked, AreRead, IsAccepted}
 use Rattle.accepted_cells.proofs.Cells.{tasks_are}
-use Rattle.controller.specs.declared.refused.Refused.{Refused}
-use Rattle.controller.specs.Accepted.{ReadModule, or_refused, names_in, typed_tasks, cell_or_refused, checked}
-use Rattle.controller.proofs.TreesInTurn.{then_trees, cell_from}
-use Rattle.controller.specs.Loaded.{AreSpelled, HasScript, IsSpelled, TextsDecide}
+use Rattle.cell_loading.specs.declared.refused.Refused.{Refused}
+use Rattle.cell_loading.specs.ReadModules.{ReadModule, or_refused, names_in, typed_tasks, cell_or_refused, checked}
+use Rattle.cell_loading.proofs.TreesInTurn.{then_trees, cell_from}
+use Rattle.cell_loading.specs.Loaded.{AreSpelled, IsSpelled, TextsDecide}
+use Rattle.controller.specs.Ready.{HasScript}
 
 -- the modules that texts come to are spelled
 pub texts_spell : (file : ℕ) (texts : List (List ℕ)) (failed : Option Refused) (reads : List ReadModule) → TextsDecide file texts failed (Ok reads) → AreSpelled reads

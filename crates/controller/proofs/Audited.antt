@@ -12,7 +12,7 @@ use Rattle.rapid_model.specs.declared.signal_row.SignalRow.{SignalRow}
 use Rattle.rapid_model.specs.declared.task_row.TaskRow.{TaskRow}
 use Rattle.typed_trees.specs.Plain.{TypedTree}
 use Rattle.rapid_meaning.specs.Asking.{tree_asks}
-use Rattle.cell_meaning.specs.Asking.{Asking, with_inputs}
+use Rattle.cell_meaning.specs.Asking.{with_inputs}
 use Rattle.cell_assembly.specs.Made.{MadeCell}
 use Rattle.history_text.specs.HistoryText.{IsFirstFault, Spells}
 use Rattle.history_text.specs.InRange.{IsEvent}
@@ -21,14 +21,15 @@ use Rattle.history_text.specs.declared.names.Names.{Names}
 use Rattle.history_audit.specs.Audits.{IsAudit}
 use Rattle.history_audit.specs.declared.audit_fault.AuditFault.{AuditFault}
 use Rattle.controller.specs.declared.report.Report.{Report}
-use Rattle.controller.specs.declared.refused.Refused.TheVariants.{History, Write}
+use Rattle.cell_loading.specs.declared.refused.Refused.TheVariants.{History, Write}
 use Rattle.controller.specs.Accepted.{Verdict, audits, refuses}
 use Rattle.controller.specs.Answered.{AnswersAudit, AnswersHistory, AuditsOrMemory, IsRefused, PrintsBy, RanNothing}
-use Rattle.controller.specs.Audits.{audit_line, audit_status}
-use Rattle.controller.specs.Output.{names_in}
-use Rattle.controller.specs.Printed.{Gained, Sunk}
-use Rattle.controller.specs.Refusals.{refusal_text, status_of}
-use Rattle.controller.specs.Written.{TakesLine, WritesAll, WritesPart}
+use Rattle.run_lines.specs.Audits.{audit_line, audit_status}
+use Rattle.run_lines.specs.Output.{names_in}
+use Rattle.sink_lines.specs.Printed.{Gained, Sunk}
+use Rattle.controller.specs.RefusalLines.{refusal_text}
+use Rattle.cell_loading.specs.Refusals.{status_of}
+use Rattle.sink_lines.specs.Written.{TakesLine, WritesAll, WritesPart}
 use Rattle.controller.proofs.Exits.{is_printed}
 
 -- the names that the text is read with
@@ -56,11 +57,6 @@ actors_seen text cell named events seen fates same spelled one =
 pub fates_seen : (text : List ℕ) (cell : CellData) (named : NamesData) (events : List Event) (fates ends : List Fate) → named ≡ names_in cell → Spells named text events fates → ends ≡ fates → length ends ≤ length cell.tasks
 fates_seen text cell named events fates ends same spelled other =
     subst (λ (fs : List Fate). length fs ≤ length cell.tasks) (sym other) (subst (λ (n : NamesData). length fates ≤ length n.tasks) same spelled.history.few)
-
--- what is found of the history is found of the cell that the core was made of
-pub audit_there : (asks : Asking) (cell here : CellData) (events : List Event) (fates : List Fate) (found : Result Bool AuditFault) → IsAudit (with_inputs asks here) here events fates found → here ≡ cell
-    → IsAudit (with_inputs asks cell) cell events fates found
-audit_there asks cell here events fates found audited same = subst (λ (c : CellData). IsAudit (with_inputs asks c) c events fates found) same audited
 
 -- what is printed of it
 

@@ -11,17 +11,18 @@ use Rattle.rapid_model.specs.declared.fate.Fate.{Fate}
 use Rattle.typed_trees.specs.Plain.{TypedTree}
 use Rattle.history_audit.specs.declared.audit_fault.AuditFault.{AuditFault}
 use Rattle.state_text.specs.StateLines.{SourcesData, state_lines}
-use Rattle.controller.specs.declared.refused.Refused.{Refused}
-use Rattle.controller.specs.declared.refused.Refused.TheVariants.{Words, Script, Module, Read, Write, Memory, TooLong, History}
+use Rattle.cell_loading.specs.declared.refused.Refused.{Refused}
+use Rattle.cell_loading.specs.declared.refused.Refused.TheVariants.{Words, Script, Module, Read, Write, Memory, TooLong, History}
 use Rattle.controller.specs.declared.report.Report.{Report}
-use Rattle.controller.specs.declared.shown.Shown.{Shown}
+use Rattle.run_lines.specs.declared.shown.Shown.{Shown}
 use Rattle.controller.specs.Answered.{AnswersAccepted, AnswersText, AuditsOrMemory, ListsOrMemory, RunsOrMemory, PrintsBy, accepted_line, run_lines, MeasuresOrMemory, measured_lines, ShowsFound, StatesOrMemory, TracesOrMemory, traced_lines}
-use Rattle.controller.specs.Audits.{audit_line, audit_status}
-use Rattle.controller.specs.Files.{IsDoneFault, IsLoadFault}
-use Rattle.controller.specs.Printed.{Sunk}
+use Rattle.run_lines.specs.Audits.{audit_line, audit_status}
+use Rattle.controller.specs.Done.{IsDoneFault}
+use Rattle.cell_loading.specs.Files.{IsLoadFault}
+use Rattle.sink_lines.specs.Printed.{Sunk}
 use Rattle.command_words.specs.Words.{refused_place}
 use Rattle.cell_listing.specs.Listing.{listing_of}
-use Rattle.controller.specs.Runs.{run_status}
+use Rattle.cell_runs.specs.Outcomes.{run_status}
 
 -- a fault that is known
 pub known_fault : (P : Refused → Type 0) (refused : Refused) (told : Option Refused) → P refused → told ≡ Some refused → IfSome told P

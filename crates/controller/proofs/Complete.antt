@@ -10,15 +10,15 @@ use Rattle.typed_trees.specs.Plain.{TypedTree}
 use Rattle.history_audit.specs.declared.audit_fault.AuditFault.{AuditFault}
 use Rattle.state_text.specs.StateLines.{SourcesData, state_lines}
 use Rattle.cell_meaning.specs.Fates.{all_ended, fates_after, is_spent}
-use Rattle.controller.specs.declared.refused.Refused.TheVariants.{Write}
+use Rattle.cell_loading.specs.declared.refused.Refused.TheVariants.{Write}
 use Rattle.controller.specs.declared.report.Report.{Report}
 use Rattle.controller.specs.Accepted.{Accepted, Verdict, accepts, audits, lists, migrates, refuses, runs, runs_free, measures, states, traces}
 use Rattle.controller.specs.Answered.{Answers, AnswersWords, IsOutOfMemory, IsPrinted, accepted_line, run_lines, measured_lines, traced_lines, ShowsFound}
-use Rattle.controller.specs.Audits.{audit_line, audit_status}
+use Rattle.run_lines.specs.Audits.{audit_line, audit_status}
 use Rattle.controller.specs.Complete.{IsComplete, IsDone}
-use Rattle.controller.specs.Files.{told_reads}
-use Rattle.controller.specs.Printed.{Sunk}
-use Rattle.controller.specs.Runs.{is_fault, run_status}
+use Rattle.cell_loading.specs.Files.{told_reads}
+use Rattle.sink_lines.specs.Printed.{Sunk}
+use Rattle.cell_runs.specs.Outcomes.{is_fault, run_status}
 use Rattle.controller.proofs.OneVerdict.{OneText, verdict_one}
 use Rattle.cell_listing.specs.Listing.{listing_of}
 

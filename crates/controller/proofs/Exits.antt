@@ -14,22 +14,26 @@ use Rattle.state_text.specs.StateLines.{SourcesData}
 use Rattle.command_words.specs.declared.command.Action.{Action}
 use Rattle.command_words.specs.declared.command.Action.TheVariants as actions
 use Rattle.controller.specs.declared.report.Report.{Report}
-use Rattle.controller.specs.declared.refused.Refused.{Refused}
-use Rattle.controller.specs.declared.refused.Refused.TheVariants.{Words, Memory}
-use Rattle.controller.specs.declared.shown.Shown.{Shown}
-use Rattle.controller.specs.declared.shown.Shown.TheVariants as shows
+use Rattle.cell_loading.specs.declared.refused.Refused.{Refused}
+use Rattle.cell_loading.specs.declared.refused.Refused.TheVariants.{Words, Memory}
+use Rattle.run_lines.specs.declared.shown.Shown.{Shown}
+use Rattle.run_lines.specs.declared.shown.Shown.TheVariants as shows
 use Rattle.command_words.specs.Words.{refused_place}
-use Rattle.controller.specs.Files.{Reads, told_reads}
-use Rattle.controller.specs.Loaded.{names_in_turn, file_names, bytes_of, reads_of, IsScriptIn, TextsDecide}
-use Rattle.controller.specs.Accepted.{Verdict, refuses, accepts, runs, runs_free, lists, measures, Accepted, ReadModule, file_text, ModulesOf, checked, names_of, ActionDecides, ActionReads, CheckedDecides, Doing, HistoryDecides, ModulesDecide, FileDecides, WordsDecide, audits, states, traces, sources_in, sources_of}
-use Rattle.controller.specs.Printed.{Seen, Sunk}
-use Rattle.controller.specs.Refusals.{refusal_text, status_of}
-use Rattle.controller.specs.Runs.{IsRun, IsRunByTurns, run_status}
+use Rattle.cell_loading.specs.Files.{Reads, told_reads}
+use Rattle.cell_loading.specs.Loaded.{names_in_turn, file_names, bytes_of, reads_of, IsScriptIn, TextsDecide}
+use Rattle.controller.specs.Accepted.{Verdict, refuses, accepts, runs, runs_free, lists, measures, Accepted, names_of, ActionDecides, ActionReads, CheckedDecides, Doing, HistoryDecides, ModulesDecide, FileDecides, WordsDecide, audits, states, traces, sources_of}
+use Rattle.cell_loading.specs.ReadModules.{ReadModule, file_text, ModulesOf, checked}
+use Rattle.state_lines.specs.Sources.{sources_in}
+use Rattle.sink_lines.specs.Printed.{Seen, Sunk}
+use Rattle.controller.specs.RefusalLines.{refusal_text}
+use Rattle.cell_loading.specs.Refusals.{status_of}
+use Rattle.controller.specs.Runs.{IsRun, IsRunByTurns}
+use Rattle.cell_runs.specs.Outcomes.{run_status}
 use Rattle.controller.specs.Answered.{IsRefused, IsPrinted, Answers, AnswersAccepted, AnswersRun, AnswersHistory, AnswersList, AnswersReads, AnswersMade, AnswersMeasured, AnswersTraced, IsOutOfMemory, IsVerdict, RunsOrMemory, ListsOrMemory, MeasuresOrMemory, TracesOrMemory, AnswersWords, untouched, PrintsBy, run_lines}
-use Rattle.controller.specs.Written.{TakesLine}
+use Rattle.sink_lines.specs.Written.{TakesLine}
 use Rattle.controller.specs.Asked.{GiveScript, GiveTexts, IsAsked, IsToDo}
-use Rattle.controller.proofs.Gains.{gained_none}
-use Rattle.controller.proofs.Loads.{modules_from_texts}
+use Rattle.sink_lines.proofs.Gains.{gained_none}
+use Rattle.cell_loading.proofs.Loads.{modules_from_texts}
 
 -- an out-of-memory refusal is about no file
 pub out_of_memory : (names : List (List ℕ)) (refused : Refused) (report : Report) (out err : Sunk) → refused ≡ Memory → IsRefused names refused report out err → IsOutOfMemory report out err

@@ -3,8 +3,8 @@ use Rattle.std.proofs.Common.{◌≡◌, ℕ, zero, suc, ◌+◌, ◌<◌, ◌�
 use Rattle.std.specs.Borrow.{Bor}
 use Rattle.std.specs.Prelude.{Some, None, slice_get}
 use Rattle.std.specs.Option.{unwrap_or}
-use Rattle.controller.specs.Refusals.{name_at}
-use Rattle.controller.specs.Loaded.{file_names}
+use Rattle.controller.specs.RefusalLines.{name_at}
+use Rattle.cell_loading.specs.Loaded.{file_names}
 
 -- the name of an element
 slice_get-seen : (ms : List (Bor (List ℕ))) (k : ℕ) (m : Bor (List ℕ)) → k < length ms → m ≡ get_or ms k m → slice_get (map (λ x. x.now) ms) k ≡ Some m.now

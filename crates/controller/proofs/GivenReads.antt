@@ -11,15 +11,16 @@ use Rattle.outside.proofs.Counting.{after_reads-zero}
 use Rattle.rapid_model.specs.ScriptData.{ScriptData, module_names}
 use Rattle.command_words.specs.declared.command.Action.{Action}
 use Rattle.command_words.specs.declared.command.Action.TheVariants as actions
-use Rattle.controller.specs.declared.refused.Refused.{Refused}
+use Rattle.cell_loading.specs.declared.refused.Refused.{Refused}
 use Rattle.command_words.specs.Words.{history_name, script_name}
-use Rattle.controller.specs.Files.{GivesText, Reads, told_reads, text_of, IsUnread}
-use Rattle.controller.specs.LoadFiles.{load_reads}
-use Rattle.controller.specs.Accepted.{Verdict, Accepted, ActionReads, AskedDecides, FilesDecide, WordsDecide, reads_for, reads_script_alone, file_text, reads_history}
-use Rattle.controller.specs.Loaded.{names_in_turn, bytes_of, IsWithin, IsScriptIn, AreTexts}
+use Rattle.cell_loading.specs.Files.{GivesText, Reads, told_reads, text_of, IsUnread}
+use Rattle.cell_loading.specs.LoadFiles.{load_reads}
+use Rattle.controller.specs.Accepted.{Verdict, Accepted, ActionReads, AskedDecides, FilesDecide, WordsDecide, reads_for, reads_script_alone, reads_history}
+use Rattle.cell_loading.specs.ReadModules.{file_text}
+use Rattle.cell_loading.specs.Loaded.{names_in_turn, bytes_of, IsWithin, IsScriptIn, AreTexts}
 use Rattle.controller.specs.Answered.{IsVerdict}
 use Rattle.controller.specs.Asked.{AreFor, GiveScript, GiveTexts}
-use Rattle.controller.proofs.Untold.{Stops, unread_gave, behind, behind_end, text_within, texts_given}
+use Rattle.cell_loading.proofs.Untold.{Stops, unread_gave, behind, behind_end, text_within, texts_given}
 
 -- words that are taken come to what their files come to, if the modules are among them
 files_decide : (words : List (List ℕ)) (action : Action) (name history : List ℕ) (gave : Reads) (verdict : Verdict) → AreFor words action name history → reads_script_alone (Some action) ≡ false

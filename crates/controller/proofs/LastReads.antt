@@ -9,17 +9,18 @@ use Rattle.cell_assembly.specs.Made.{MadeCell}
 use Rattle.state_text.specs.StateLines.{SourcesData}
 use Rattle.command_words.specs.declared.command.Action.{Action}
 use Rattle.command_words.specs.declared.command.Action.TheVariants as actions
-use Rattle.controller.specs.declared.refused.Refused.{Refused}
-use Rattle.controller.specs.declared.refused.Refused.TheVariants as refusals
+use Rattle.cell_loading.specs.declared.refused.Refused.{Refused}
+use Rattle.cell_loading.specs.declared.refused.Refused.TheVariants as refusals
 use Rattle.controller.specs.declared.report.Report.{Report}
 use Rattle.rapid_limits.specs.declared.TheConstants.{HISTORY_BYTES}
-use Rattle.controller.specs.Files.{IsUnread, Reads}
-use Rattle.controller.specs.Accepted.{Verdict, audits, refuses, states, file_text, prints_places, reads_history, ActionDecides, ActionReads, HistoryDecides}
+use Rattle.cell_loading.specs.Files.{IsUnread, Reads}
+use Rattle.controller.specs.Accepted.{Verdict, audits, refuses, states, prints_places, reads_history, ActionDecides, ActionReads, HistoryDecides}
+use Rattle.cell_loading.specs.ReadModules.{file_text}
 use Rattle.controller.specs.Answered.{AnswersWords, IsRefused}
 use Rattle.controller.specs.Asked.{IsAsked, IsToDo}
-use Rattle.controller.specs.Printed.{Sunk}
-use Rattle.controller.specs.Refusals.{name_at, refusal_line, refusal_text}
-use Rattle.controller.specs.Written.{TakesLine}
+use Rattle.sink_lines.specs.Printed.{Sunk}
+use Rattle.controller.specs.RefusalLines.{name_at, refusal_line, refusal_text}
+use Rattle.sink_lines.specs.Written.{TakesLine}
 use Rattle.controller.proofs.Exits.{out_of_memory}
 
 -- only actions that read a history depend on it

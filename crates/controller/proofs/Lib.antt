@@ -1,31 +1,11 @@
 mod Examples
-pub mod ClearanceExamples
-pub mod Lists
-pub mod ModuleFiles
-pub mod Untold
 pub mod GivenReads
-pub mod Loads
 pub mod LoadTexts
-pub mod ReadModules
-pub mod Parsing
-pub mod TreesInTurn
-pub mod Checking
-pub mod Made
-pub mod Compiling
+pub mod CheckedTrees
 pub mod Accepting
 pub mod NamedTasks
-pub mod Running
-pub mod ZonesMissed
 pub mod FileNames
-pub mod Sending
-pub mod Stalling
-pub mod Gains
 pub mod RefusalLines
-pub mod Fates
-pub mod Printing
-pub mod PrintingList
-pub mod PrintingState
-mod PrintingTrace
 mod Traced
 pub mod Reports
 pub mod Exits
@@ -37,8 +17,3 @@ pub mod Causes
 pub mod OneVerdict
 pub mod Refusing
 pub mod Complete
-pub mod ArmPositions
-pub mod NearestGaps
-pub mod PathGaps
-pub mod Walking
-pub mod PrintingZones

@@ -12,16 +12,16 @@ use Rattle.rapid_model.specs.ScriptData.{ScriptData, module_names}
 use Rattle.cell_load.specs.Texts.{module_files, module_text, script_text}
 use Rattle.command_words.specs.declared.command.Action.{Action}
 use Rattle.command_words.specs.declared.command.Action.TheVariants as actions
-use Rattle.controller.specs.declared.refused.Refused.{Refused}
-use Rattle.controller.specs.Accepted.{file_text}
+use Rattle.cell_loading.specs.declared.refused.Refused.{Refused}
+use Rattle.cell_loading.specs.ReadModules.{file_text}
 use Rattle.command_words.specs.Words.{AreMoves}
 use Rattle.controller.specs.Asked.{AreFor, GiveScript, GiveTexts}
-use Rattle.controller.specs.Files.{text_of}
-use Rattle.controller.specs.LoadFiles.{load_reads, module_named}
-use Rattle.controller.specs.Loaded.{bytes_of, AreTexts, IsScriptIn, IsWithin}
+use Rattle.cell_loading.specs.Files.{text_of}
+use Rattle.cell_loading.specs.LoadFiles.{load_reads, module_named}
+use Rattle.cell_loading.specs.Loaded.{bytes_of, AreTexts, IsScriptIn, IsWithin}
 use Rattle.controller.proofs.GivenReads.{load_verdict}
-use Rattle.controller.proofs.Loads.{script_in}
-use Rattle.controller.proofs.Untold.{text_within}
+use Rattle.cell_loading.proofs.Loads.{script_in}
+use Rattle.cell_loading.proofs.Untold.{text_within}
 
 -- the texts of the load cell are short
 

@@ -14,18 +14,19 @@ use Rattle.command_words.specs.declared.command.Action.{Action}
 use Rattle.command_words.specs.declared.command.Action.TheVariants as actions
 use Rattle.command_words.specs.Words.{history_name, script_name}
 use Rattle.controller.specs.declared.report.Report.{Report}
-use Rattle.controller.specs.declared.refused.Refused.{Refused}
-use Rattle.controller.specs.declared.refused.Refused.TheVariants as refusals
-use Rattle.controller.specs.Files.{Reads, told_reads, text_of, IsUnread}
-use Rattle.controller.specs.Accepted.{Verdict, migrates, refuses, Accepted, AloneDecides, AskedDecides, WordsDecide, file_text, reads_script_alone}
-use Rattle.controller.specs.Loaded.{IsMigratedIn}
-use Rattle.controller.specs.Printed.{Sunk}
+use Rattle.cell_loading.specs.declared.refused.Refused.{Refused}
+use Rattle.cell_loading.specs.declared.refused.Refused.TheVariants as refusals
+use Rattle.cell_loading.specs.Files.{Reads, told_reads, text_of, IsUnread}
+use Rattle.controller.specs.Accepted.{Verdict, migrates, refuses, Accepted, AloneDecides, AskedDecides, WordsDecide, reads_script_alone}
+use Rattle.cell_loading.specs.ReadModules.{file_text}
+use Rattle.controller.specs.Ready.{IsMigratedIn}
+use Rattle.sink_lines.specs.Printed.{Sunk}
 use Rattle.controller.specs.Answered.{AnswersText, AnswersWords, IsRefused, IsVerdict, PrintsBy}
 use Rattle.controller.specs.Asked.{AreFor}
 use Rattle.controller.proofs.Exits.{is_printed, out_of_memory}
 use Rattle.controller.proofs.GivenReads.{AreFrom}
-use Rattle.controller.proofs.Loads.{script_breaks, script_stops}
-use Rattle.controller.proofs.Untold.{text_within}
+use Rattle.cell_loading.proofs.Loads.{script_breaks, script_stops}
+use Rattle.cell_loading.proofs.Untold.{text_within}
 
 -- the script of a text that was read in full
 migrated_in : (read : Result (List ℕ) Refused) (text source : List ℕ) (result : Result (String Global) Refused) → read ≡ Ok text → source ≡ text → IsMigratedIn (Ok source) result → IsMigratedIn read result

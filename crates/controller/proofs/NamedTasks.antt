@@ -25,10 +25,10 @@ use Rattle.cell_assembly.proofs.CellLimits.{IsCell-from}
 use Rattle.accepted_cells.proofs.Cells.{tasks_are}
 use Rattle.history_text.specs.HistoryText.{AreNamed}
 use Rattle.history_text.proofs.NamesApart.{cell_is_named}
-use Rattle.controller.specs.declared.refused.Refused.{Refused}
-use Rattle.controller.specs.Accepted.{ReadModule, typed_tasks, checked}
+use Rattle.cell_loading.specs.declared.refused.Refused.{Refused}
+use Rattle.cell_loading.specs.ReadModules.{ReadModule, typed_tasks, checked}
 use Rattle.controller.proofs.Accepting.{made_of_trees}
-use Rattle.controller.proofs.TreesInTurn.{cell_from}
+use Rattle.cell_loading.proofs.TreesInTurn.{cell_from}
 
 -- a script that a table spells is within the limits of every script
 

@@ -18,12 +18,13 @@ use Rattle.history_text.proofs.NextLines.{one_first_fault, spelled_has_no_fault}
 use Rattle.history_text.proofs.OneHistory.{read_once}
 use Rattle.command_words.specs.declared.command.Action.{Action}
 use Rattle.command_words.specs.declared.command.Action.TheVariants as actions
-use Rattle.controller.specs.declared.refused.Refused.{Refused}
-use Rattle.controller.specs.declared.refused.Refused.TheVariants.{History}
+use Rattle.cell_loading.specs.declared.refused.Refused.{Refused}
+use Rattle.cell_loading.specs.declared.refused.Refused.TheVariants.{History}
 use Rattle.command_words.specs.Words.{refused_place, script_name, history_name, asked}
-use Rattle.controller.specs.Files.{Reads}
-use Rattle.controller.specs.Output.{names_in}
-use Rattle.controller.specs.Accepted.{Doing, ReadModule, Verdict, audits, refuses, Accepted, file_text, reads_for, fault_refusal, ModuleOf, ModuleIn, ModulesOf, checked, ActionDecides, ActionReads, AloneDecides, AskedDecides, CheckedDecides, MigrationDecides, reads_script_alone, HistoryDecides, ModulesDecide, names_of, ScriptDecides, FileDecides, WordsDecide, states, sources_of}
+use Rattle.cell_loading.specs.Files.{Reads}
+use Rattle.run_lines.specs.Output.{names_in}
+use Rattle.controller.specs.Accepted.{Doing, Verdict, audits, refuses, Accepted, reads_for, ActionDecides, ActionReads, AloneDecides, AskedDecides, CheckedDecides, MigrationDecides, reads_script_alone, HistoryDecides, ModulesDecide, names_of, ScriptDecides, FileDecides, WordsDecide, states, sources_of}
+use Rattle.cell_loading.specs.ReadModules.{ReadModule, file_text, fault_refusal, ModuleOf, ModuleIn, ModulesOf, checked}
 use Rattle.controller.proofs.NamedTasks.{made_named, script_within}
 
 -- a text comes to one module or one fault

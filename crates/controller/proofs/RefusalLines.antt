@@ -4,10 +4,11 @@ use Rattle.std.specs.Prelude.{codes, decimal}
 use Rattle.rapid_model.specs.declared.script_rule.ScriptRule.{ScriptRule}
 use Rattle.rapid_model.specs.RuleNames.{rule_name}
 use Rattle.rapid_lexer.specs.declared.place.Place.{Place}
-use Rattle.controller.specs.declared.refused.ModuleRule.{ModuleRule}
-use Rattle.controller.specs.declared.refused.Refused.{Refused}
-use Rattle.controller.specs.declared.refused.Refused.TheVariants.{Words, Script, Module, Read, TooLong, History}
-use Rattle.controller.specs.Refusals.{refusal_text, key_words, place_words, module_rule_name}
+use Rattle.cell_loading.specs.declared.refused.ModuleRule.{ModuleRule}
+use Rattle.cell_loading.specs.declared.refused.Refused.{Refused}
+use Rattle.cell_loading.specs.declared.refused.Refused.TheVariants.{Words, Script, Module, Read, TooLong, History}
+use Rattle.controller.specs.RefusalLines.{refusal_text, key_words, place_words}
+use Rattle.cell_loading.specs.Refusals.{module_rule_name}
 
 pub words_pieces : (name middle : List ℕ) (place : ℕ) (r : Refused) → r ≡ Words place → middle ≡ decimal place
     → refusal_text name r ≡ codes "rapid_cell: words " ++ (middle ++ codes "\n")

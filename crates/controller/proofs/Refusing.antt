@@ -13,13 +13,14 @@ use Rattle.rapid_forms.specs.declared.fault.SyntaxFault.{SyntaxFault}
 use Rattle.rapid_forms.specs.declared.fault.SyntaxFault.TheVariants as faults
 use Rattle.command_words.specs.declared.command.Action.{Action}
 use Rattle.command_words.specs.declared.command.Action.TheVariants as actions
-use Rattle.controller.specs.declared.refused.Refused.{Refused}
-use Rattle.controller.specs.declared.refused.Refused.TheVariants as refusals
-use Rattle.controller.specs.Files.{Reads, text_of}
+use Rattle.cell_loading.specs.declared.refused.Refused.{Refused}
+use Rattle.cell_loading.specs.declared.refused.Refused.TheVariants as refusals
+use Rattle.cell_loading.specs.Files.{Reads, text_of}
 use Rattle.command_words.specs.Words.{refused_place, script_name, history_name, asked}
-use Rattle.controller.specs.Accepted.{Doing, Verdict, refuses, accepts, runs, runs_free, lists, audits, migrates, Accepted, ReadModule, file_text, reads_for, fault_refusal, ModuleIn, ModulesOf, checked, ActionDecides, ActionReads, AloneDecides, AskedDecides, CheckedDecides, MigrationDecides, reads_script_alone, HistoryDecides, ModulesDecide, names_of, ScriptDecides, FileDecides, WordsDecide, measures, states, traces, sources_of}
+use Rattle.controller.specs.Accepted.{Doing, Verdict, refuses, accepts, runs, runs_free, lists, audits, migrates, Accepted, reads_for, ActionDecides, ActionReads, AloneDecides, AskedDecides, CheckedDecides, MigrationDecides, reads_script_alone, HistoryDecides, ModulesDecide, names_of, ScriptDecides, FileDecides, WordsDecide, measures, states, traces, sources_of}
+use Rattle.cell_loading.specs.ReadModules.{ReadModule, file_text, fault_refusal, ModuleIn, ModulesOf, checked}
 use Rattle.state_text.specs.StateLines.{SourcesData}
-use Rattle.controller.proofs.Checking.{checks_refuse}
+use Rattle.cell_loading.proofs.Checking.{checks_refuse}
 
 -- the words, a file, the script or a module is refused
 abbrev pub IsOfInput : Refused → Type 0

@@ -15,21 +15,22 @@ use Rattle.cell_meaning.specs.Turns.{IsByTurns}
 use Rattle.cell_meaning.proofs.ByTurns.{legal_answered}
 use Rattle.cell_meaning.proofs.Follow.{outputs_follow}
 use Rattle.history_text.specs.Lines.{fate_lines}
-use Rattle.controller.specs.Clearances.{AreClearances, Clearance, clearance_lines}
-use Rattle.controller.specs.Measured.{WritesMeasured}
+use Rattle.clearance_lines.specs.Clearances.{AreClearances, Clearance, clearance_lines}
+use Rattle.clearance_lines.specs.Measured.{WritesMeasured}
 use Rattle.cell_meaning.proofs.InputScript.{asks_what_it_may}
 use Rattle.controller.specs.declared.report.Report.{Report}
-use Rattle.controller.specs.declared.refused.Refused.TheVariants.{Write}
-use Rattle.controller.specs.Refusals.{status_of, refusal_text}
-use Rattle.controller.specs.Runs.{IsRun, IsRunByTurns, TellsRun, run_status}
-use Rattle.controller.specs.Output.{lines_of}
-use Rattle.controller.specs.declared.shown.Shown.{Shown}
-use Rattle.controller.specs.Printed.{Sunk, Gained}
-use Rattle.controller.specs.Written.{Writes, WritesAll, WritesPart}
+use Rattle.cell_loading.specs.declared.refused.Refused.TheVariants.{Write}
+use Rattle.cell_loading.specs.Refusals.{status_of}
+use Rattle.controller.specs.RefusalLines.{refusal_text}
+use Rattle.controller.specs.Runs.{IsRun, IsRunByTurns, TellsRun}
+use Rattle.cell_runs.specs.Outcomes.{run_status}
+use Rattle.run_lines.specs.Output.{lines_of}
+use Rattle.run_lines.specs.declared.shown.Shown.{Shown}
+use Rattle.sink_lines.specs.Printed.{Sunk, Gained}
+use Rattle.sink_lines.specs.Written.{Writes, WritesAll, WritesPart, TakesLine}
 use Rattle.controller.specs.Answered.{AnswersMeasured, AnswersRun, Closes, MeasuresOrMemory, PrintsBy, RunsOrMemory, measured_lines}
-use Rattle.controller.specs.Written.{TakesLine}
-use Rattle.controller.proofs.Stalling.{stalled_wait}
-use Rattle.controller.proofs.ZonesMissed.{zones_missed}
+use Rattle.cell_runs.proofs.Stalling.{stalled_wait}
+use Rattle.cell_runs.proofs.ZonesMissed.{zones_missed}
 
 -- what is printed, in terms of the report
 lines_are : (shown : Shown) (cell : CellData) (history : List Event) (report : Report) → TellsRun cell history report

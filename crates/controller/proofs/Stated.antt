@@ -1,35 +1,31 @@
 -- The state after a history, and its report.
-use Rattle.std.proofs.Common.{◌≡◌, ℕ, List, [], ◌∷◌, length, map, true, false, None, Some, Bool, Result, Ok, Err, refl, ap, sym, ◌∙◌, subst, inl, inr}
+use Rattle.std.proofs.Common.{◌≡◌, ℕ, List, [], ◌∷◌, length, true, false, None, Some, Bool, Result, Ok, Err, refl, sym, subst, inl, inr}
 use Rattle.std.specs.Result.{is_err}
 use Rattle.std.proofs.lemmas.Bool.{true≢false}
 use Rattle.rapid_model.specs.CellData.{CellData}
 use Rattle.rapid_model.specs.declared.event.Event.{Event}
 use Rattle.rapid_model.specs.declared.fate.Fate.{Fate}
 use Rattle.typed_trees.specs.Plain.{TypedTree}
-use Rattle.stack_code.specs.CodeData.{CodeData}
-use Rattle.stack_code.specs.Compiled.{compiled}
 use Rattle.rapid_meaning.specs.Asking.{tree_asks}
 use Rattle.cell_meaning.specs.Asking.{Asking, with_inputs}
 use Rattle.cell_meaning.specs.Histories.{IsLegal}
 use Rattle.cell_assembly.specs.Made.{MadeCell}
-use Rattle.task_machine.specs.MachineData.{MachineData}
 use Rattle.history_text.specs.HistoryText.{Spells}
 use Rattle.history_text.specs.Named.{NamesData}
 use Rattle.history_audit.specs.Audits.{IsAudit}
 use Rattle.history_audit.specs.declared.audit_fault.AuditFault.{AuditFault}
-use Rattle.cell_state.specs.Codes.{IsStateByCodes}
 use Rattle.cell_state.specs.States.{CellStateData, IsStateAfter}
 use Rattle.state_text.specs.StateLines.{SourcesData, state_lines}
 use Rattle.controller.specs.declared.report.Report.{Report}
-use Rattle.controller.specs.declared.refused.Refused.TheVariants.{Write}
+use Rattle.cell_loading.specs.declared.refused.Refused.TheVariants.{Write}
 use Rattle.controller.specs.Accepted.{states}
 use Rattle.controller.specs.Answered.{AnswersHistory, AnswersState, IsPrinted, PrintsBy, RanNothing, ShowsFound, StatesOrMemory}
-use Rattle.controller.specs.Audits.{audit_line, audit_status}
-use Rattle.controller.specs.Output.{names_in}
-use Rattle.controller.specs.Printed.{Gained, Sunk}
-use Rattle.controller.specs.Refusals.{refusal_text, status_of}
-use Rattle.controller.specs.Written.{TakesLine, WritesAll, WritesPart}
-use Rattle.controller.proofs.Compiling.{code_in}
+use Rattle.run_lines.specs.Audits.{audit_line, audit_status}
+use Rattle.run_lines.specs.Output.{names_in}
+use Rattle.sink_lines.specs.Printed.{Gained, Sunk}
+use Rattle.controller.specs.RefusalLines.{refusal_text}
+use Rattle.cell_loading.specs.Refusals.{status_of}
+use Rattle.sink_lines.specs.Written.{TakesLine, WritesAll, WritesPart}
 use Rattle.controller.proofs.Exits.{is_printed}
 
 -- the lines of a state that are printed
@@ -82,12 +78,6 @@ right_stated cell here trees seen sources events fates (Ok whole) state report o
             (subst (λ (c : CellData). PrintsBy 0 (state_lines c seen sources state) report out err) same printed),
       ),
     )
-
--- the state by the codes of the machines is the one by the codes of the trees
-pub state_there : (cell here : CellData) (trees : List TypedTree) (machines : List MachineData) (events : List Event) (state : CellStateData) → here ≡ cell → code_in machines ≡ map compiled trees
-    → IsStateByCodes here (code_in machines) events state → IsStateByCodes cell (map compiled trees) events state
-state_there cell here trees machines events state same coded is =
-    subst (λ (programs : List CodeData). IsStateByCodes cell programs events state) coded (subst (λ (c : CellData). IsStateByCodes c (code_in machines) events state) same is)
 
 shows_printed : (cell : CellData) (trees : List TypedTree) (sources : List SourcesData) (events : List Event) (report : Report) (out err : Sunk) (found : Result Bool AuditFault)
     → ShowsFound cell trees sources events (λ status lines. PrintsBy status lines report out err) found → ShowsFound cell trees sources events (λ status lines. IsPrinted status lines report out err) found

@@ -17,10 +17,11 @@ use Rattle.state_text.specs.StateLines.{SourcesData}
 use Rattle.state_text.specs.TraceLines.{trace_lines}
 use Rattle.controller.specs.declared.report.Report.{Report}
 use Rattle.controller.specs.Answered.{AnswersTraced, Closes, TracesOrMemory, traced_lines}
-use Rattle.controller.specs.Printed.{Sunk}
-use Rattle.controller.specs.Runs.{IsRunByTurns, TellsRun, run_status}
+use Rattle.sink_lines.specs.Printed.{Sunk}
+use Rattle.controller.specs.Runs.{IsRunByTurns, TellsRun}
+use Rattle.cell_runs.specs.Outcomes.{run_status}
 use Rattle.controller.specs.RunsAsked.{IsRunAsking}
-use Rattle.controller.specs.Written.{Writes}
+use Rattle.sink_lines.specs.Written.{Writes}
 use Rattle.controller.proofs.Reports.{lines_printed, run_of}
 
 -- what is printed, in terms of the report

@@ -24,20 +24,23 @@ use Rattle.cell_listing.specs.Listing.{listing_of}
 use Rattle.script_migration.specs.Migrated.{Migrates}
 use Rattle.history_text.specs.Lines.{fate_lines}
 use Rattle.controller.specs.declared.report.Report.{Report}
-use Rattle.controller.specs.declared.refused.Refused.{Refused}
-use Rattle.controller.specs.declared.refused.Refused.TheVariants.{Write, Memory}
+use Rattle.cell_loading.specs.declared.refused.Refused.{Refused}
+use Rattle.cell_loading.specs.declared.refused.Refused.TheVariants.{Write, Memory}
 use Rattle.command_words.specs.declared.command.Action.{Action}
-use Rattle.controller.specs.declared.shown.Shown.{Shown}
-use Rattle.controller.specs.Files.{Reads, told_reads}
-use Rattle.controller.specs.Accepted.{Doing, Verdict, refuses, accepts, runs, runs_free, lists, audits, migrates, Accepted, ReadModule, checked, ActionDecides, CheckedDecides, HistoryDecides, measures, states, traces, sources_of}
-use Rattle.controller.specs.Audits.{audit_line, audit_status}
-use Rattle.controller.specs.Clearances.{AreClearances, Clearance, clearance_lines}
-use Rattle.controller.specs.Refusals.{status_of, refusal_line}
-use Rattle.controller.specs.Runs.{IsRun, IsRunByTurns, run_status}
-use Rattle.controller.specs.Output.{lines_of}
-use Rattle.controller.specs.Sends.{SendsLines, SendsSome}
-use Rattle.controller.specs.Printed.{Seen, Sunk, Gained, GainedPart, GainedCalls}
-use Rattle.controller.specs.Written.{TakesLine}
+use Rattle.run_lines.specs.declared.shown.Shown.{Shown}
+use Rattle.cell_loading.specs.Files.{Reads, told_reads}
+use Rattle.controller.specs.Accepted.{Doing, Verdict, refuses, accepts, runs, runs_free, lists, audits, migrates, Accepted, ActionDecides, CheckedDecides, HistoryDecides, measures, states, traces, sources_of}
+use Rattle.cell_loading.specs.ReadModules.{ReadModule, checked}
+use Rattle.run_lines.specs.Audits.{audit_line, audit_status}
+use Rattle.clearance_lines.specs.Clearances.{AreClearances, Clearance, clearance_lines}
+use Rattle.cell_loading.specs.Refusals.{status_of}
+use Rattle.controller.specs.RefusalLines.{refusal_line}
+use Rattle.controller.specs.Runs.{IsRun, IsRunByTurns}
+use Rattle.cell_runs.specs.Outcomes.{run_status}
+use Rattle.run_lines.specs.Output.{lines_of}
+use Rattle.sink_lines.specs.Sends.{SendsLines, SendsSome}
+use Rattle.sink_lines.specs.Printed.{Seen, Sunk, Gained, GainedPart, GainedCalls}
+use Rattle.sink_lines.specs.Written.{TakesLine}
 
 -- the sink gained these bytes
 abbrev pub Takes : List ℕ → Sunk → Type 0

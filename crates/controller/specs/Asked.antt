@@ -6,11 +6,12 @@ use Rattle.rapid_model.specs.ScriptData.{ScriptData, module_names}
 use Rattle.cell_assembly.specs.Made.{MadeCell}
 use Rattle.state_text.specs.StateLines.{SourcesData}
 use Rattle.command_words.specs.declared.command.Action.{Action}
-use Rattle.controller.specs.declared.refused.Refused.{Refused}
+use Rattle.cell_loading.specs.declared.refused.Refused.{Refused}
 use Rattle.command_words.specs.Words.{refused_place, script_name, history_name, asked}
-use Rattle.controller.specs.Files.{Reads}
-use Rattle.controller.specs.Accepted.{Doing, Verdict, file_text, ActionDecides, ActionReads, FilesDecide}
-use Rattle.controller.specs.Loaded.{AreTexts, IsScriptIn}
+use Rattle.cell_loading.specs.Files.{Reads}
+use Rattle.controller.specs.Accepted.{Doing, Verdict, ActionDecides, ActionReads, FilesDecide}
+use Rattle.cell_loading.specs.ReadModules.{file_text}
+use Rattle.cell_loading.specs.Loaded.{AreTexts, IsScriptIn}
 use Rattle.controller.specs.Answered.{IsVerdict}
 
 -- the words are taken, and ask for this action with a script of this name, and with a history of that

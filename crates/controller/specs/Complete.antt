@@ -9,10 +9,10 @@ use Rattle.history_audit.specs.Audits.{IsAudit}
 use Rattle.history_audit.specs.declared.audit_fault.AuditFault.{AuditFault}
 use Rattle.controller.specs.Accepted.{Verdict, accepts, audits, lists, migrates, refuses, runs, runs_free, measures, states, traces}
 use Rattle.controller.specs.Answered.{IsOutOfMemory, IsVerdict}
-use Rattle.controller.specs.Audits.{audit_status}
-use Rattle.controller.specs.Printed.{Sunk}
-use Rattle.controller.specs.Refusals.{status_of}
-use Rattle.controller.specs.Runs.{run_status}
+use Rattle.run_lines.specs.Audits.{audit_status}
+use Rattle.sink_lines.specs.Printed.{Sunk}
+use Rattle.cell_loading.specs.Refusals.{status_of}
+use Rattle.cell_runs.specs.Outcomes.{run_status}
 
 -- the status is the verdict's: that of the refusal, 0 for a check, a list and a script in version 2, that of the history
 -- for a run, and that of what is found for an audit and for a state

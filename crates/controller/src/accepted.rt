@@ -1,18 +1,20 @@
 ghost use Rattle.std.specs.Prelude.{◌≡◌, ◌≢◌, ◌≤◌, ℕ, ◌↔◌, List, Some, None, IfOk, IfErr, IfSome, length, map};
 ghost use Rattle.outside.specs.Count.{Rose};
 ghost use Rattle.rapid_limits.specs.declared.TheConstants.{HISTORY_BYTES};
-ghost use Rattle.controller.specs.Files.{IsLoadFault};
-ghost use Rattle.controller.specs.Loaded.{made_of, view_modules, AreShort, HasScript};
+ghost use Rattle.cell_loading.specs.Files.{IsLoadFault};
+ghost use Rattle.cell_loading.specs.Loaded.{made_of, AreShort};
+ghost use Rattle.state_lines.specs.Sources.{view_modules};
+ghost use Rattle.controller.specs.Ready.{HasScript};
 ghost use Rattle.command_words.specs.Words.{asked, refused_place, AreMoves};
-ghost use Rattle.controller.specs.Printed.{sunk, Seen};
+ghost use Rattle.sink_lines.specs.Printed.{sunk, Seen};
 ghost use Rattle.controller.specs.Answered.{untouched, AnswersWords};
 ghost use Rattle.controller.specs.Asked.{AreFor, IsAsked};
 
 use crate::load_cell::load_cell;
 use crate::prepared::Prepared;
-use crate::refused::Refused;
 use crate::report::{Report, refuse};
 use crate::shelf_cell::shelf_cell;
+use cell_loading::Refused;
 use command_words::{Action, Command, read_words};
 use outside::{Shelf, Sink};
 use std::alloc::Global;

@@ -1,45 +1,31 @@
-ghost use Rattle.std.specs.Prelude.{◌≡◌, ℕ, ◌↔◌, Bool, Some, true, All, IfOk, map, length};
+ghost use Rattle.std.specs.Prelude.{◌≡◌, ℕ, ◌↔◌, Bool, Some, true, map};
 ghost use Rattle.typed_trees.specs.Views.{view_tree};
-ghost use Rattle.stack_code.specs.Compiled.{compiled};
-ghost use Rattle.task_code.specs.Asking.{CodeAsks};
-ghost use Rattle.task_code.specs.Live.{CodeFits};
-ghost use Rattle.code_laws.specs.Checked.{IsChecked};
-ghost use Rattle.cell_meaning.specs.Asking.{with_inputs};
-ghost use Rattle.cell_meaning.specs.Histories.{IsLegal, IsWhole};
-ghost use Rattle.cell_crew.specs.Courses.{SuitTasks};
-ghost use Rattle.cell_crew.specs.Crew.{AskAsPrograms};
 ghost use Rattle.outside.specs.Count.{Rose};
-ghost use Rattle.controller.specs.Loaded.{made_of, HasScript};
+ghost use Rattle.cell_loading.specs.Loaded.{made_of};
+ghost use Rattle.controller.specs.Ready.{HasScript};
 ghost use Rattle.controller.specs.Runs.{IsRun};
 ghost use Rattle.command_words.specs.Words.{is_run, refused_place};
-ghost use Rattle.controller.specs.Printed.{sunk};
+ghost use Rattle.sink_lines.specs.Printed.{sunk};
 ghost use Rattle.controller.specs.Answered.{AnswersWords, RunsOrMemory};
 ghost use Rattle.controller.specs.Complete.{IsComplete};
 
 use crate::accepted::accepted_cell;
-use crate::check::CheckedCell;
 use crate::prepared::Prepared;
-use crate::refused::Refused;
 use crate::report::{Report, refuse};
-use crate::run::{crew_of, report_run, within_limits};
-use crate::shown::Shown;
+use crate::run::{report_run, within_limits};
 use accepted_cells::{
     accepted_code_suits_its_task, accepted_tasks_ask_as_their_code, accepted_tasks_ask_well,
 };
-use cell_core::Core;
-use cell_gate::open_gate;
-use cell_meaning::Askers;
+use cell_loading::{CheckedCell, Refused};
+use cell_runs::free_tasks;
 use command_words::Action;
-use free_crew::run_free;
 use outside::{Pace, Shelf, Sink};
-use rapid_model::Cell;
-use std::alloc::{AllocError, Global};
+use run_lines::Shown;
+use std::alloc::Global;
 use std::convert::AsSlice;
 use std::marker::Brand;
 use std::sync::Wait;
 use std::thread::Threads;
-use task_machine::Machine;
-use typed_trees::Tree;
 
 /// Does what the command words say, which ask for `run` (`is_run`), with the script in the file CELL and the modules
 /// that it names. `run CELL` runs each task of the cell on its own thread, with the input script beside them. The first
@@ -111,30 +97,4 @@ fn free_cell<R: Threads + Wait + Sync, O: Sink, E: Sink, P: Pace + Sync>(
         Ok(core) => report_run(core, Shown::Events { full }, out, err),
         Err(_) => refuse(alloc, err, "", Refused::Memory),
     }
-}
-
-/// Runs the tasks of a cell, given their trees, on threads. All memory is taken before the first event.
-fn free_tasks<A: Askers, R: Threads + Wait + Sync, P: Pace + Sync>(
-    rt: &R,
-    alloc: Global,
-    cell: Cell,
-    trees: &[Tree],
-    pace: &P,
-) -> Result<Core, AllocError>
-    requires one_each { length trees.now ≡ length cell.tasks }
-    requires checked { All IsChecked (map view_tree trees.now) }
-    requires programs { AskAsPrograms CodeFits CodeAsks A.asks (map compiled (map view_tree trees.now)) }
-    requires suit { SuitTasks CodeFits CodeAsks cell (map compiled (map view_tree trees.now)) }
-    ensures cell { IfOk result (λ core. core.cell ≡ cell) }
-    ensures legal { IfOk result (λ core. IsLegal (with_inputs A.asks cell) cell core.history) }
-    ensures whole { IfOk result (λ core. IsWhole (with_inputs A.asks cell) cell core.history) }
-{
-    let machines = crew_of(alloc, trees)?;
-    let Ok(core) = Core::new(alloc, cell) else {
-        return Err(AllocError);
-    };
-    let Ok((gate, passes)) = open_gate(alloc, core) else {
-        return Err(AllocError);
-    };
-    Ok(run_free::<A, Machine, R, P>(rt, gate, machines, passes, pace).core)
 }

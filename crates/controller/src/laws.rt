@@ -4,13 +4,13 @@ ghost use Rattle.outside.specs.Told.{Told};
 ghost use Rattle.rapid_model.specs.CellData.{CellData};
 ghost use Rattle.rapid_model.specs.declared.event.Event.{Event};
 ghost use Rattle.cell_meaning.specs.Histories.{IsLegal};
-ghost use Rattle.controller.specs.Files.{Reads, told_reads};
+ghost use Rattle.cell_loading.specs.Files.{Reads, told_reads};
 ghost use Rattle.controller.specs.Accepted.{Verdict, refuses, Accepted};
 ghost use Rattle.controller.specs.Answered.{AnswersWords, IsOutOfMemory};
 ghost use Rattle.controller.specs.Complete.{IsDone};
-ghost use Rattle.controller.specs.Printed.{Sunk};
-ghost use Rattle.controller.specs.Runs.{MissesZones, run_status};
-ghost use Rattle.controller.specs.declared.refused.Refused.TheVariants.{Write, Memory};
+ghost use Rattle.sink_lines.specs.Printed.{Sunk};
+ghost use Rattle.cell_runs.specs.Outcomes.{MissesZones, run_status};
+ghost use Rattle.cell_loading.specs.declared.refused.Refused.TheVariants.{Write, Memory};
 ghost use Rattle.controller.specs.declared.report.Report.{Report};
 
 use cell_meaning::Askers;

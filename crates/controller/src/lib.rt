@@ -6,44 +6,29 @@
 mod accepted;
 mod action;
 mod audit_cell;
-mod check;
-mod code;
-mod files;
 mod free_run;
+mod last_text;
 mod laws;
 mod list;
 mod load_cell;
 mod measure_cell;
 mod migrate;
-mod module_texts;
-mod modules;
-mod nearest;
 mod prepared;
-mod print;
-mod print_audit;
-mod print_clearances;
-mod print_gap;
-mod print_list;
-mod print_state;
-mod print_summary;
-mod print_trace;
-mod refused;
+mod refusal;
 mod report;
 mod run;
 mod shelf_cell;
-mod shown;
 mod state_cell;
-mod texts;
 mod texts_cell;
 mod top;
 mod trace_cell;
 
 pub use action::quiet;
+pub use cell_loading::{ModuleRule, Refused};
 pub use command_words::{Action, is_run};
 pub use free_run::free;
 pub use laws::{
     given_setpoints_miss_zones, verdict_is_one, verdicts_refuse_input, what_is_asked_is_done,
 };
-pub use refused::{ModuleRule, Refused};
 pub use report::{Report, out_of_memory};
 pub use top::controller;

@@ -2,17 +2,17 @@ ghost use Rattle.std.specs.Prelude.{◌≡◌, List, map};
 ghost use Rattle.stack_code.specs.Compiled.{compiled};
 ghost use Rattle.typed_trees.specs.Plain.{TypedTree};
 ghost use Rattle.typed_trees.specs.Views.{view_tree};
-ghost use Rattle.controller.specs.Loaded.{made_of, HasScript};
-ghost use Rattle.controller.specs.Printed.{sunk};
+ghost use Rattle.cell_loading.specs.Loaded.{made_of};
+ghost use Rattle.controller.specs.Ready.{HasScript};
+ghost use Rattle.sink_lines.specs.Printed.{sunk};
 ghost use Rattle.controller.specs.Answered.{AnswersList, AreCodesOf, ListsOrMemory};
 
-use crate::check::CheckedCell;
-use crate::code::compile_all;
-use crate::print_list::print_list;
-use crate::refused::Refused;
 use crate::report::{Report, refuse};
+use cell_loading::{CheckedCell, Refused};
+use cell_runs::compile_all;
 use outside::Sink;
 use rapid_model::Cell;
+use run_lines::print_list;
 use std::alloc::Global;
 use task_code::Code;
 

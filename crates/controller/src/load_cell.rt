@@ -1,24 +1,20 @@
-ghost use Rattle.std.specs.Prelude.{◌≡◌, ℕ, List, [], Option, IfOk, IfErr, IfSome, map};
+ghost use Rattle.std.specs.Prelude.{◌≡◌, ℕ, List, [], Option, IfOk, IfErr, IfSome};
 ghost use Rattle.outside.specs.Told.{Told};
-ghost use Rattle.cell_load.specs.Views.{view_modules};
-ghost use Rattle.controller.specs.Files.{IsLoadFault};
-ghost use Rattle.controller.specs.LoadFiles.{module_named};
-ghost use Rattle.controller.specs.Loaded.{bytes_of, made_of, names_in_turn, HasScript};
-ghost use Rattle.controller.specs.Printed.{sunk, Seen};
+ghost use Rattle.cell_loading.specs.Files.{IsLoadFault};
+ghost use Rattle.cell_loading.specs.Loaded.{made_of};
+ghost use Rattle.controller.specs.Ready.{HasScript};
+ghost use Rattle.sink_lines.specs.Printed.{sunk, Seen};
 ghost use Rattle.controller.specs.Answered.{untouched, AnswersWords};
 ghost use Rattle.command_words.specs.Words.{AreMoves};
 ghost use Rattle.controller.specs.Asked.{AreFor, IsAsked};
 
-use crate::check::CheckedCell;
-use crate::files::module_files;
-use crate::refused::Refused;
 use crate::report::{Report, refuse, refuse_file};
-use crate::texts::script_of;
 use crate::texts_cell::texts_cell;
 use cell_load::make_load;
+use cell_loading::{CheckedCell, Refused, module_files, own_texts, script_of};
 use command_words::{Action, Command};
 use outside::Sink;
-use std::alloc::{AllocError, Global};
+use std::alloc::Global;
 
 /// The load cell of this many moves, from texts of its own. Otherwise the report of the refusal, whose line is printed.
 pub(crate) fn load_cell<E: Sink>(
@@ -53,32 +49,4 @@ pub(crate) fn load_cell<E: Sink>(
         Err(_) => return Err(refuse(alloc, err, "", Refused::Memory)),
     };
     texts_cell(alloc, command, &script, files, texts.as_slice(), None, err)
-}
-
-/// The texts of the modules with these names, in order.
-fn own_texts(
-    alloc: Global,
-    modules: &[(String, Vec<u8>)],
-    names: &[&str],
-) -> Result<Vec<Vec<u8>>, AllocError>
-    ensures { IfOk result (λ texts. bytes_of texts.items ≡ map (module_named (view_modules modules.now)) (names_in_turn names.now)) }
-{
-    let mut texts = Vec::new(alloc);
-    for name in names {
-        let text = module_named(modules, name);
-        texts.push(Vec::from_slice(alloc, text)?)?;
-    }
-    Ok(texts)
-}
-
-/// The text of the module with this name, or an empty one if no module has it.
-fn module_named<'a>(modules: &'a [(String, Vec<u8>)], name: &str) -> &'a [u8]
-    ensures { result.now ≡ module_named (view_modules modules.now) name.now }
-{
-    for (key, text) in modules {
-        if name == key.as_str() {
-            return text.as_slice();
-        }
-    }
-    b""
 }

@@ -5,19 +5,20 @@ ghost use Rattle.typed_trees.specs.Views.{view_tree};
 ghost use Rattle.rapid_model.specs.CellData.{IsCell};
 ghost use Rattle.cell_meaning.specs.Premises.{AllAnswered};
 ghost use Rattle.controller.specs.Answered.{AnswersMeasured, MeasuresOrMemory};
-ghost use Rattle.controller.specs.Loaded.{made_of, HasScript};
-ghost use Rattle.controller.specs.Printed.{sunk};
+ghost use Rattle.cell_loading.specs.Loaded.{made_of};
+ghost use Rattle.controller.specs.Ready.{HasScript};
+ghost use Rattle.sink_lines.specs.Printed.{sunk};
 ghost use Rattle.controller.specs.Runs.{IsRunByTurns, TellsRun};
 
-use crate::check::CheckedCell;
-use crate::print_clearances::print_clearances;
-use crate::refused::Refused;
 use crate::report::{Report, refuse};
-use crate::run::{report_printed, run_tasks, status_of_run, within_limits};
+use crate::run::{report_printed, within_limits};
 use accepted_cells::{
     accepted_code_suits_its_task, accepted_tasks_ask_as_their_code, accepted_tasks_ask_well,
 };
 use cell_core::Core;
+use cell_loading::{CheckedCell, Refused};
+use cell_runs::{run_tasks, status_of_run};
+use clearance_lines::print_clearances;
 use outside::Sink;
 use std::alloc::Global;
 use std::marker::Brand;

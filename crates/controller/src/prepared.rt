@@ -1,5 +1,4 @@
-use crate::check::CheckedCell;
-use crate::module_texts::ModuleTexts;
+use cell_loading::{CheckedCell, ModuleTexts};
 
 /// What an action is done with: an accepted cell; the modules of its tasks, if the action prints places; and the text of
 /// the history that it reads last, otherwise an empty one.

@@ -1,15 +1,17 @@
 ghost use Rattle.std.specs.Prelude.{◌≡◌, ◌≤◌, [], Some};
 ghost use Rattle.std.specs.Option.{option_map_or};
-ghost use Rattle.controller.specs.Loaded.{file_names};
-ghost use Rattle.controller.specs.Printed.{sunk, Seen};
-ghost use Rattle.controller.specs.Written.{TakesLine};
-ghost use Rattle.controller.specs.Refusals.{status_of, refusal_text, refusal_line, name_at, file_of};
+ghost use Rattle.cell_loading.specs.Loaded.{file_names};
+ghost use Rattle.sink_lines.specs.Printed.{sunk, Seen};
+ghost use Rattle.sink_lines.specs.Written.{TakesLine};
+ghost use Rattle.cell_loading.specs.Refusals.{status_of, file_of};
+ghost use Rattle.controller.specs.RefusalLines.{refusal_text, refusal_line, name_at};
 ghost use Rattle.controller.specs.Answered.{untouched, AnswersAccepted, AnswersText, IsOutOfMemory};
 
-use crate::print::write_all;
-use crate::refused::{Refused, tell_refusal};
+use crate::refusal::tell_refusal;
+use cell_loading::Refused;
 use outside::Sink;
 use rapid_model::{Event, Fate};
+use sink_lines::write_all;
 use std::alloc::Global;
 
 /// The outcome of a call: its status, the history of the run, the fate of each task in script order, and the refusal,

@@ -1,19 +1,19 @@
 ghost use Rattle.std.specs.Prelude.{◌≡◌, ◌≢◌, ◌≤◌, ℕ, List, All, IfOk, IfErr, IfSome, IsTrue, length};
 ghost use Rattle.rapid_limits.specs.declared.TheConstants.{HISTORY_BYTES};
-ghost use Rattle.controller.specs.Files.{IsLoadFault};
-ghost use Rattle.controller.specs.Accepted.{prints_places, sources_in};
-ghost use Rattle.controller.specs.Loaded.{bytes_of, made_of, view_modules, AreShort, HasScript, IsWithin};
-ghost use Rattle.controller.specs.Printed.{sunk, Seen};
+ghost use Rattle.cell_loading.specs.Files.{IsLoadFault};
+ghost use Rattle.controller.specs.Accepted.{prints_places};
+ghost use Rattle.state_lines.specs.Sources.{sources_in, view_modules};
+ghost use Rattle.cell_loading.specs.Loaded.{bytes_of, made_of, AreShort, IsWithin};
+ghost use Rattle.controller.specs.Ready.{HasScript};
+ghost use Rattle.sink_lines.specs.Printed.{sunk, Seen};
 ghost use Rattle.controller.specs.Answered.{untouched, AnswersWords};
 ghost use Rattle.controller.specs.Asked.{AreFor, IsAsked};
 
-use crate::files::module_files;
-use crate::module_texts::ModuleTexts;
+use crate::last_text::load_last;
 use crate::prepared::Prepared;
-use crate::refused::Refused;
 use crate::report::{Report, refuse, refuse_file};
-use crate::texts::{Texts, load_last, load_script, load_texts};
 use crate::texts_cell::texts_cell;
+use cell_loading::{ModuleTexts, Refused, Texts, load_script, load_texts, module_files};
 use command_words::{Action, Command};
 use outside::{Shelf, Sink};
 use rapid_model::Script;

@@ -1,50 +1,31 @@
 //! The state of a cell after a printed history.
 
-ghost use Rattle.std.specs.Prelude.{◌≡◌, ◌≤◌, ℕ, List, All, IfOk, IfSome, length, map};
+ghost use Rattle.std.specs.Prelude.{◌≤◌, ℕ, List, All, IfSome, length, map};
 ghost use Rattle.rapid_limits.specs.declared.TheConstants.{HISTORY_BYTES};
 ghost use Rattle.typed_trees.specs.Views.{view_tree};
-ghost use Rattle.stack_code.specs.Compiled.{compiled};
-ghost use Rattle.task_code.specs.Asking.{CodeAsks};
-ghost use Rattle.task_code.specs.Live.{CodeFits};
-ghost use Rattle.code_laws.specs.Checked.{IsChecked};
-ghost use Rattle.cell_meaning.specs.Asking.{with_inputs};
-ghost use Rattle.cell_meaning.specs.Histories.{IsLegal};
-ghost use Rattle.cell_crew.specs.Courses.{SuitTasks};
-ghost use Rattle.cell_crew.specs.Crew.{AskAsPrograms};
-ghost use Rattle.cell_state.specs.States.{IsStateAfter};
 ghost use Rattle.state_text.specs.StateLines.{state_lines};
 ghost use Rattle.controller.specs.Accepted.{states};
 ghost use Rattle.controller.specs.Answered.{AnswersHistory, PrintsBy, RanNothing, StatesOrMemory};
-ghost use Rattle.controller.specs.Files.{IsDoneFault};
-ghost use Rattle.controller.specs.Loaded.{made_of, view_modules, AreShort, HasScript};
-ghost use Rattle.controller.specs.Printed.{sunk};
+ghost use Rattle.controller.specs.Done.{IsDoneFault};
+ghost use Rattle.cell_loading.specs.Loaded.{made_of, AreShort};
+ghost use Rattle.state_lines.specs.Sources.{view_modules};
+ghost use Rattle.controller.specs.Ready.{HasScript};
+ghost use Rattle.sink_lines.specs.Printed.{sunk};
 
-use crate::audit_cell::{Audited, audit_history, report_audit};
-use crate::check::CheckedCell;
-use crate::module_texts::ModuleTexts;
-use crate::print_state::print_state;
-use crate::refused::Refused;
+use crate::audit_cell::report_audit;
 use crate::report::{Report, refuse};
-use crate::run::crew_of;
 use accepted_cells::{
     accepted_code_suits_its_task, accepted_tasks_ask_as_their_code, accepted_tasks_ask_well,
 };
-use cell_core::Core;
-use cell_meaning::Askers;
-use cell_state::{CellState, code_states_are_tree_states, state_of};
+use cell_loading::{CheckedCell, ModuleTexts, Refused};
+use cell_runs::{Audited, Stated, audit_history, state_reached};
 use history_text::{HistoryFault, names_of, read_history};
 use outside::Sink;
-use rapid_model::{Cell, Event, Fate};
-use std::alloc::{AllocError, Global};
+use rapid_model::{Event, Fate};
+use state_lines::print_state;
+use std::alloc::Global;
 use std::marker::Brand;
 use typed_trees::Tree;
-
-/// A state of a cell, and a core of the cell, which is of no further use but for its names.
-#[derive(Drop)]
-struct Stated {
-    core: Core,
-    state: CellState,
-}
 
 /// Prints the state of an accepted cell after the history that a text spells, if nothing is wrong with it, and reports
 /// it; or reports what is wrong with the history, or the first line with which the lines start no history of the cell.
@@ -105,32 +86,6 @@ fn state_after<O: Sink, E: Sink>(
     match state_reached::<Brand>(alloc, core.into_cell(), trees, events) {
         Ok(stated) => report_state(alloc, &stated, trees, modules, out, err),
         Err(_) => refuse(alloc, err, "", Refused::Memory),
-    }
-}
-
-/// The state of a cell after a legal history, given the trees of its tasks.
-fn state_reached<A: Askers>(
-    alloc: Global,
-    cell: Cell,
-    trees: &[Tree],
-    events: &[Event],
-) -> Result<Stated, AllocError>
-    requires one_each { length trees.now ≡ length cell.tasks }
-    requires checked { All IsChecked (map view_tree trees.now) }
-    requires programs { AskAsPrograms CodeFits CodeAsks A.asks (map compiled (map view_tree trees.now)) }
-    requires suit { SuitTasks CodeFits CodeAsks cell (map compiled (map view_tree trees.now)) }
-    requires legal { IsLegal (with_inputs A.asks cell) cell events.now }
-    ensures cell { IfOk result (λ stated. stated.core.cell ≡ cell) }
-    ensures state { IfOk result (λ stated. IsStateAfter cell (map view_tree trees.now) events.now stated.state) }
-{
-    code_states_are_tree_states::<A>();
-    let mut machines = crew_of(alloc, trees)?;
-    match Core::new(alloc, cell) {
-        Ok(mut core) => {
-            let state = state_of::<A>(alloc, &mut core, machines.as_mut_slice(), events)?;
-            Ok(Stated { core, state })
-        }
-        Err(_) => Err(AllocError),
     }
 }
 

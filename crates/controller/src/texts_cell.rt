@@ -1,18 +1,18 @@
-ghost use Rattle.std.specs.Prelude.{◌≡◌, ◌<◌, ◌^◌, ℕ, List, None, Some, Ok, IfOk, IfErr, IfSome, All, length};
+ghost use Rattle.std.specs.Prelude.{◌≡◌, ◌<◌, ◌^◌, ℕ, List, None, Some, Ok, IfOk, IfErr, IfSome, All, length, Option};
 ghost use Rattle.rapid_model.specs.ScriptData.{module_names};
 ghost use Rattle.outside.specs.Told.{Told};
-ghost use Rattle.std.specs.Prelude.{Option};
-ghost use Rattle.controller.specs.Accepted.{ActionReads, checked, sources_in};
-ghost use Rattle.controller.specs.Files.{IsLoadFault, Reads};
-ghost use Rattle.controller.specs.Loaded.{bytes_of, file_names, made_of, names_in_turn, reads_in, ArePaired, AreSpelled, HasScript, IsWithin};
-ghost use Rattle.controller.specs.Printed.{sunk, Seen};
+ghost use Rattle.controller.specs.Accepted.{ActionReads};
+ghost use Rattle.cell_loading.specs.ReadModules.{checked};
+ghost use Rattle.state_lines.specs.Sources.{sources_in};
+ghost use Rattle.cell_loading.specs.Files.{IsLoadFault, Reads};
+ghost use Rattle.cell_loading.specs.Loaded.{bytes_of, file_names, made_of, names_in_turn, reads_in, ArePaired, AreSpelled, IsWithin};
+ghost use Rattle.controller.specs.Ready.{HasScript};
+ghost use Rattle.sink_lines.specs.Printed.{sunk, Seen};
 ghost use Rattle.controller.specs.Answered.{untouched, AnswersReads, AnswersWords};
 ghost use Rattle.controller.specs.Asked.{GiveTexts, IsToDo};
 
-use crate::check::{CheckedCell, check_modules};
-use crate::modules::{Modules, parse_texts};
-use crate::refused::Refused;
 use crate::report::{Report, refuse_file};
+use cell_loading::{CheckedCell, Modules, Refused, check_modules, parse_texts};
 use command_words::{Action, Command};
 use outside::Sink;
 use rapid_model::Script;

@@ -1,14 +1,14 @@
 ghost use Rattle.std.specs.Prelude.{◌≡◌, ℕ, ◌↔◌, Some, map};
 ghost use Rattle.outside.specs.Count.{Rose};
 ghost use Rattle.command_words.specs.Words.{refused_place};
-ghost use Rattle.controller.specs.Printed.{sunk};
+ghost use Rattle.sink_lines.specs.Printed.{sunk};
 ghost use Rattle.controller.specs.Answered.{AnswersWords};
 ghost use Rattle.controller.specs.Complete.{IsComplete};
 
 use crate::action::quiet;
 use crate::free_run::free;
-use crate::refused::Refused;
 use crate::report::Report;
+use cell_loading::Refused;
 use command_words::is_run;
 use outside::{Pace, Shelf, Sink};
 use std::alloc::Global;

@@ -14,25 +14,26 @@ ghost use Rattle.cell_crew.specs.Courses.{SuitTasks};
 ghost use Rattle.cell_crew.specs.Crew.{AskAsPrograms};
 ghost use Rattle.task_steps.specs.Phases as phases;
 ghost use Rattle.controller.specs.Answered.{AnswersTraced, TracesOrMemory};
-ghost use Rattle.controller.specs.Loaded.{made_of, view_modules, AreShort, HasScript};
-ghost use Rattle.controller.specs.Printed.{sunk};
+ghost use Rattle.cell_loading.specs.Loaded.{made_of, AreShort};
+ghost use Rattle.state_lines.specs.Sources.{view_modules};
+ghost use Rattle.controller.specs.Ready.{HasScript};
+ghost use Rattle.sink_lines.specs.Printed.{sunk};
 ghost use Rattle.controller.specs.Runs.{IsRunByTurns, TellsRun};
 ghost use Rattle.controller.specs.RunsAsked.{IsRunAsking};
 
-use crate::check::CheckedCell;
-use crate::module_texts::ModuleTexts;
-use crate::print_trace::print_trace;
-use crate::refused::Refused;
 use crate::report::{Report, refuse};
-use crate::run::{crew_of, report_printed, run_tasks, status_of_run, within_limits};
+use crate::run::{report_printed, within_limits};
 use accepted_cells::{
     accepted_code_suits_its_task, accepted_tasks_ask_as_their_code, accepted_tasks_ask_well,
 };
 use cell_core::Core;
 use cell_crew::ask_first;
+use cell_loading::{CheckedCell, ModuleTexts, Refused};
 use cell_meaning::Askers;
+use cell_runs::{crew_of, run_tasks, status_of_run};
 use outside::Sink;
 use rapid_model::Cell;
+use state_lines::print_trace;
 use std::alloc::Global;
 use std::marker::Brand;
 use task_machine::Machine;

@@ -1,9 +1,9 @@
 use Rattle.std.specs.Prelude.{map}
-use Rattle.controller.specs.Files.{IsLoadFault}
+use Rattle.cell_loading.specs.Files.{IsLoadFault}
 use Rattle.controller.proofs.Causes.{no_words, no_write, read_counted}
 use Rattle.command_words.proofs.Choosing.{asked_moves}
 use Rattle.controller.proofs.Exits.{words_refused}
-use Rattle.controller.proofs.Gains.{gained_none}
+use Rattle.sink_lines.proofs.Gains.{gained_none}
 use Rattle.controller.proofs.accepted.accepted_cell.Goals as goal
 
 pub returns-in-Err-clause-refused : goal.returns-in-Err-clause-refused

@@ -1,8 +1,9 @@
 use Rattle.std.proofs.Common.{[], ◌∷◌, ◌++◌, map}
 use Rattle.typed_trees.specs.Views.{view_tree}
-use Rattle.controller.specs.Loaded.{made_of, view_modules}
+use Rattle.cell_loading.specs.Loaded.{made_of}
+use Rattle.state_lines.specs.Sources.{view_modules}
 use Rattle.controller.specs.Runs.{IsRunByTurns}
-use Rattle.controller.specs.declared.shown.Shown.TheVariants as shows
+use Rattle.run_lines.specs.declared.shown.Shown.TheVariants as shows
 use Rattle.controller.proofs.Causes.{accepted_told, list_told, measured_told, run_told, traced_told}
 use Rattle.controller.proofs.Exits.{all_accepted, cell_audited, cell_listed, cell_measured, cell_stated, cell_traced, load_run, round_run}
 use Rattle.controller.proofs.action.do_prepared.Goals as goal

@@ -1,8 +1,9 @@
 use Rattle.std.proofs.Common.{ap}
 use Rattle.std.specs.Prelude.{map}
-use Rattle.controller.specs.Files.{IsDoneFault}
-use Rattle.controller.specs.Loaded.{made_of, view_modules}
-use Rattle.controller.specs.Printed.{sunk}
+use Rattle.controller.specs.Done.{IsDoneFault}
+use Rattle.cell_loading.specs.Loaded.{made_of}
+use Rattle.state_lines.specs.Sources.{view_modules}
+use Rattle.sink_lines.specs.Printed.{sunk}
 use Rattle.controller.proofs.Causes.{no_read, no_words, write_counted}
 use Rattle.command_words.proofs.Choosing.{not_migrate, not_run}
 use Rattle.controller.proofs.Complete.{done}

@@ -1,15 +1,15 @@
 use Rattle.std.proofs.Common.{Err, ap, inl, map, subst, sym}
 use Rattle.typed_trees.specs.Views.{view_tree}
-use Rattle.controller.specs.Files.{IsDoneFault}
+use Rattle.controller.specs.Done.{IsDoneFault}
 use Rattle.controller.specs.Accepted.{audits}
-use Rattle.controller.specs.Loaded.{made_of}
+use Rattle.cell_loading.specs.Loaded.{made_of}
 use Rattle.history_text.specs.HistoryText.{AreNamed}
 use Rattle.history_text.specs.Named.{view_names}
-use Rattle.controller.specs.declared.refused.Refused.TheVariants.{History, Memory}
+use Rattle.cell_loading.specs.declared.refused.Refused.TheVariants.{History, Memory}
 use Rattle.controller.proofs.Audited.{actors_seen, fates_seen, history_audited, history_refused, names_seen}
 use Rattle.controller.proofs.Causes.{audit_told, known_fault}
 use Rattle.controller.proofs.Exits.{memory_refused}
-use Rattle.controller.proofs.Gains.{gained_none}
+use Rattle.sink_lines.proofs.Gains.{gained_none}
 use Rattle.controller.proofs.audit_cell.audit_cell.Goals as goal
 
 pub read_history-requires-clause-names : goal.read_history-requires-clause-names

@@ -1,9 +1,9 @@
 use Rattle.std.proofs.Common.{ap, length, map, sym, ◌∙◌}
 use Rattle.std.proofs.lemmas.List.{length-map}
 use Rattle.typed_trees.specs.Views.{view_tree}
-use Rattle.controller.specs.Loaded.{made_with}
+use Rattle.cell_loading.specs.Loaded.{made_with}
 use Rattle.controller.proofs.Audited.{audit_answered}
-use Rattle.controller.proofs.Compiling.{all_checked, seen_script}
+use Rattle.controller.proofs.CheckedTrees.{all_checked, seen_script}
 use Rattle.controller.proofs.audit_cell.audit_events.Goals as goal
 
 pub audit_history-requires-clause-one_each : goal.audit_history-requires-clause-one_each

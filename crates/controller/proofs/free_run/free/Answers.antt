@@ -2,12 +2,13 @@ use Rattle.std.proofs.Common.{Bool, ap, sym, ◌∙◌}
 use Rattle.std.specs.Prelude.{map}
 use Rattle.command_words.specs.Words.{has_history}
 use Rattle.command_words.specs.declared.command.Action.TheVariants as actions
-use Rattle.controller.specs.Files.{IsDoneFault}
-use Rattle.controller.specs.Loaded.{made_of, view_modules}
+use Rattle.controller.specs.Done.{IsDoneFault}
+use Rattle.cell_loading.specs.Loaded.{made_of}
+use Rattle.state_lines.specs.Sources.{view_modules}
 use Rattle.typed_trees.specs.Views.{view_tree}
-use Rattle.controller.specs.Printed.{sunk}
+use Rattle.sink_lines.specs.Printed.{sunk}
 use Rattle.controller.specs.Runs.{IsRun}
-use Rattle.controller.specs.declared.shown.Shown.TheVariants as shows
+use Rattle.run_lines.specs.declared.shown.Shown.TheVariants as shows
 use Rattle.controller.proofs.Causes.{no_read, no_words, run_told, write_counted}
 use Rattle.command_words.proofs.Choosing.{is_run_action, run_is_no_migrate}
 use Rattle.controller.proofs.Complete.{done}

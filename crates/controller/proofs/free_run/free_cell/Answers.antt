@@ -1,9 +1,9 @@
 use Rattle.std.proofs.Common.{ap, length, map, sym, ◌∙◌}
 use Rattle.std.proofs.lemmas.List.{length-map}
 use Rattle.typed_trees.specs.Views.{view_tree}
-use Rattle.controller.specs.Loaded.{made_with}
-use Rattle.controller.specs.declared.shown.Shown.TheVariants as shows
-use Rattle.controller.proofs.Compiling.{all_checked, seen_script}
+use Rattle.cell_loading.specs.Loaded.{made_with}
+use Rattle.run_lines.specs.declared.shown.Shown.TheVariants as shows
+use Rattle.controller.proofs.CheckedTrees.{all_checked, seen_script}
 use Rattle.controller.proofs.Reports.{free_answered}
 use Rattle.controller.proofs.free_run.free_cell.Goals as goal
 

@@ -1,4 +1,4 @@
-use Rattle.controller.proofs.ZonesMissed.{zones_missed}
+use Rattle.cell_runs.proofs.ZonesMissed.{zones_missed}
 use Rattle.controller.proofs.laws.given_setpoints_miss_zones.Goals as goal
 
 pub returns : goal.returns

@@ -1,4 +1,4 @@
-use Rattle.controller.specs.declared.refused.Refused.TheVariants.{Write, Memory}
+use Rattle.cell_loading.specs.declared.refused.Refused.TheVariants.{Write, Memory}
 use Rattle.controller.proofs.Refusing.{refuses_input}
 use Rattle.controller.proofs.laws.verdicts_refuse_input.Goals as goal
 

@@ -2,8 +2,9 @@ use Rattle.std.proofs.Common.{List, All, ap, inr, map, subst, sym, ◌∙◌}
 use Rattle.typed_trees.specs.Views.{view_tree}
 use Rattle.typed_trees.specs.declared.tree.Tree.{Tree}
 use Rattle.code_laws.specs.Checked.{IsChecked}
-use Rattle.controller.specs.Loaded.{made_of}
-use Rattle.controller.proofs.Compiling.{all_checked, code_of, codes_are}
+use Rattle.cell_loading.specs.Loaded.{made_of}
+use Rattle.controller.proofs.CheckedTrees.{all_checked, codes_are}
+use Rattle.cell_runs.proofs.Compiling.{code_of}
 use Rattle.controller.proofs.list.list_cell.Goals as goal
 
 pub compile_all-requires : goal.compile_all-requires

@@ -5,14 +5,15 @@ use Rattle.cell_load.specs.Texts.{module_files}
 use Rattle.cell_load.specs.Views.{view_modules}
 use Rattle.command_words.specs.declared.command.Action.{Action}
 use Rattle.command_words.specs.declared.command.Action.TheVariants as actions
-use Rattle.controller.specs.Accepted.{prints_places, reads_history, sources_in}
-use Rattle.controller.specs.Files.{IsLoadFault}
-use Rattle.controller.specs.LoadFiles.{module_named}
-use Rattle.controller.specs.Loaded.{bytes_of, file_names, made_of, names_in_turn}
-use Rattle.controller.specs.declared.refused.Refused.TheVariants.{Memory}
+use Rattle.controller.specs.Accepted.{prints_places, reads_history}
+use Rattle.state_lines.specs.Sources.{sources_in}
+use Rattle.cell_loading.specs.Files.{IsLoadFault}
+use Rattle.cell_loading.specs.LoadFiles.{module_named}
+use Rattle.cell_loading.specs.Loaded.{bytes_of, file_names, made_of, names_in_turn}
+use Rattle.cell_loading.specs.declared.refused.Refused.TheVariants.{Memory}
 use Rattle.controller.proofs.Causes.{known_fault}
 use Rattle.controller.proofs.Exits.{memory_refused, script_refused}
-use Rattle.controller.proofs.Gains.{gained_none}
+use Rattle.sink_lines.proofs.Gains.{gained_none}
 use Rattle.controller.proofs.LastReads.{text_asked}
 use Rattle.controller.proofs.LoadTexts.{load_script_given, load_texts_given, texts_within}
 use Rattle.controller.proofs.load_cell.load_cell.Goals as goal

@@ -1,8 +1,8 @@
 use Rattle.std.proofs.Common.{ap, length, map, sym, ◌∙◌}
 use Rattle.std.proofs.lemmas.List.{length-map}
 use Rattle.typed_trees.specs.Views.{view_tree}
-use Rattle.controller.specs.Loaded.{made_with}
-use Rattle.controller.proofs.Compiling.{all_checked, seen_script}
+use Rattle.cell_loading.specs.Loaded.{made_with}
+use Rattle.controller.proofs.CheckedTrees.{all_checked, seen_script}
 use Rattle.controller.proofs.Reports.{IsSound, measured_answered, measured_answers, measured_limits}
 use Rattle.controller.proofs.measure_cell.measure_cell.Goals as goal
 

@@ -1,12 +1,13 @@
 use Rattle.std.proofs.Common.{◌≡◌, ap, sym, ◌∙◌}
 use Rattle.std.specs.Prelude.{Err, Ok, Some, map}
 use Rattle.command_words.proofs.Choosing.{is_migrate_action}
-use Rattle.controller.specs.Files.{IsDoneFault, IsLoadFault}
-use Rattle.controller.specs.declared.refused.Refused.TheVariants.{Words, Write}
+use Rattle.controller.specs.Done.{IsDoneFault}
+use Rattle.cell_loading.specs.Files.{IsLoadFault}
+use Rattle.cell_loading.specs.declared.refused.Refused.TheVariants.{Words, Write}
 use Rattle.controller.proofs.Causes.{known_fault, no_read, no_words, no_write, read_counted, text_told, write_counted}
 use Rattle.controller.proofs.Complete.{done}
 use Rattle.controller.proofs.Exits.{words_refused}
-use Rattle.controller.proofs.Gains.{gained_none}
+use Rattle.sink_lines.proofs.Gains.{gained_none}
 use Rattle.controller.proofs.Migrating.{migrated_given, migration_refused, script_migrated}
 use Rattle.controller.proofs.migrate.migrate.Goals as goal
 

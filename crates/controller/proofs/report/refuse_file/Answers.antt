@@ -1,7 +1,7 @@
 use Rattle.std.proofs.Common.{ℕ, List, subst}
-use Rattle.controller.specs.Printed.{sunk}
-use Rattle.controller.specs.Refusals.{refusal_text}
-use Rattle.controller.specs.Written.{TakesLine}
+use Rattle.sink_lines.specs.Printed.{sunk}
+use Rattle.controller.specs.RefusalLines.{refusal_text}
+use Rattle.sink_lines.specs.Written.{TakesLine}
 use Rattle.controller.proofs.report.refuse_file.Goals as goal
 
 pub returns-clause-told : goal.returns-clause-told

@@ -2,8 +2,8 @@ use Rattle.std.proofs.Common.{sym, subst}
 use Rattle.std.specs.Prelude.{Result, ⊤}
 use Rattle.outside.specs.declared.failed.Failed.{Failed}
 use Rattle.controller.specs.Answered.{Closes}
-use Rattle.controller.specs.Printed.{sunk}
-use Rattle.controller.proofs.Gains.{gained_none}
+use Rattle.sink_lines.specs.Printed.{sunk}
+use Rattle.sink_lines.proofs.Gains.{gained_none}
 use Rattle.controller.proofs.run.report_printed.Goals as goal
 
 pub returns-in-Ok-clause-closed : goal.returns-in-Ok-clause-closed

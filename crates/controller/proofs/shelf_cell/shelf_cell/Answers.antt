@@ -3,14 +3,14 @@ use Rattle.std.specs.Prelude.{Ok, Err, Vec}
 use Rattle.std.specs.declared.alloc.Global.{Global}
 use Rattle.std.proofs.lemmas.List.{length-map}
 use Rattle.controller.specs.Answered.{AnswersWords, untouched}
-use Rattle.controller.specs.Files.{IsLoadFault}
-use Rattle.controller.specs.Accepted.{sources_in}
-use Rattle.controller.specs.Loaded.{bytes_of, file_names, made_of, names_in_turn}
-use Rattle.controller.specs.Printed.{sunk}
-use Rattle.controller.specs.declared.refused.Refused.TheVariants.{Memory}
+use Rattle.cell_loading.specs.Files.{IsLoadFault}
+use Rattle.state_lines.specs.Sources.{sources_in}
+use Rattle.cell_loading.specs.Loaded.{bytes_of, file_names, made_of, names_in_turn}
+use Rattle.sink_lines.specs.Printed.{sunk}
+use Rattle.cell_loading.specs.declared.refused.Refused.TheVariants.{Memory}
 use Rattle.controller.proofs.Causes.{fault_since, known_fault}
 use Rattle.controller.proofs.Exits.{memory_refused, script_refused}
-use Rattle.controller.proofs.Gains.{gained_none}
+use Rattle.sink_lines.proofs.Gains.{gained_none}
 use Rattle.controller.proofs.GivenReads.{all_given, last_given, loaded_names, script_given, texts_seen}
 use Rattle.controller.proofs.LastReads.{last_refused, told_last, text_asked}
 use Rattle.controller.proofs.shelf_cell.shelf_cell.Goals as goal

@@ -1,7 +1,7 @@
 use Rattle.std.proofs.Common.{map, refl}
 use Rattle.typed_trees.specs.Views.{view_tree}
-use Rattle.controller.specs.Loaded.{view_modules}
-use Rattle.controller.proofs.Gains.{gained_none}
+use Rattle.state_lines.specs.Sources.{view_modules}
+use Rattle.sink_lines.proofs.Gains.{gained_none}
 use Rattle.controller.proofs.Stated.{state_cut_short, state_printed}
 use Rattle.controller.proofs.state_cell.report_state.Goals as goal
 

@@ -8,8 +8,9 @@ use Rattle.task_code.specs.Live.{CodeFits}
 use Rattle.rapid_meaning.specs.Asking.{tree_asks}
 use Rattle.cell_crew.specs.Courses.{SuitTasks}
 use Rattle.cell_state.specs.States.{IsStateAfter}
-use Rattle.controller.specs.Loaded.{made_with, view_modules}
-use Rattle.controller.proofs.Compiling.{all_checked, seen_script}
+use Rattle.cell_loading.specs.Loaded.{made_with}
+use Rattle.state_lines.specs.Sources.{view_modules}
+use Rattle.controller.proofs.CheckedTrees.{all_checked, seen_script}
 use Rattle.controller.proofs.Exits.{memory_refused}
 use Rattle.controller.proofs.Stated.{legal_found, right_stated, wrong_stated}
 use Rattle.controller.proofs.state_cell.state_after.Goals as goal

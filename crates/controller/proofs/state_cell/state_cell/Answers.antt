@@ -1,15 +1,16 @@
 use Rattle.std.proofs.Common.{Err, ap, inl, map, subst, sym}
 use Rattle.typed_trees.specs.Views.{view_tree}
-use Rattle.controller.specs.Files.{IsDoneFault}
+use Rattle.controller.specs.Done.{IsDoneFault}
 use Rattle.controller.specs.Accepted.{states}
-use Rattle.controller.specs.Loaded.{made_of, view_modules}
+use Rattle.cell_loading.specs.Loaded.{made_of}
+use Rattle.state_lines.specs.Sources.{view_modules}
 use Rattle.history_text.specs.HistoryText.{AreNamed}
 use Rattle.history_text.specs.Named.{view_names}
-use Rattle.controller.specs.declared.refused.Refused.TheVariants.{History, Memory}
+use Rattle.cell_loading.specs.declared.refused.Refused.TheVariants.{History, Memory}
 use Rattle.controller.proofs.Audited.{actors_seen, fates_seen, history_refused, names_seen}
 use Rattle.controller.proofs.Causes.{known_fault, state_told}
 use Rattle.controller.proofs.Exits.{memory_refused}
-use Rattle.controller.proofs.Gains.{gained_none}
+use Rattle.sink_lines.proofs.Gains.{gained_none}
 use Rattle.controller.proofs.Stated.{history_stated}
 use Rattle.controller.proofs.state_cell.state_cell.Goals as goal
 

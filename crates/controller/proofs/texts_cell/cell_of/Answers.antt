@@ -2,11 +2,11 @@ use Rattle.std.proofs.Common.{Some, ◌∙◌}
 use Rattle.std.proofs.lemmas.List.{length-map}
 use Rattle.typed_trees.specs.Views.{view_tree}
 use Rattle.controller.specs.Accepted.{ActionReads}
-use Rattle.controller.specs.Loaded.{file_names, made_of, reads_in}
+use Rattle.cell_loading.specs.Loaded.{file_names, made_of, reads_in}
 use Rattle.controller.proofs.Accepting.{checked_has_script}
-use Rattle.controller.proofs.Checking.{checks_told}
+use Rattle.cell_loading.proofs.Checking.{checks_told}
 use Rattle.controller.proofs.Exits.{check_refused}
-use Rattle.controller.proofs.Gains.{gained_none}
+use Rattle.sink_lines.proofs.Gains.{gained_none}
 use Rattle.controller.proofs.texts_cell.cell_of.Goals as goal
 
 pub returns-in-Ok-clause-script : goal.returns-in-Ok-clause-script

@@ -1,10 +1,10 @@
 use Rattle.std.proofs.lemmas.Result.{IfErr-weaker, IfOk-weaker}
-use Rattle.controller.specs.Files.{IsLoadFault}
-use Rattle.controller.specs.Loaded.{bytes_of, made_of}
+use Rattle.cell_loading.specs.Files.{IsLoadFault}
+use Rattle.cell_loading.specs.Loaded.{bytes_of, made_of}
 use Rattle.controller.proofs.Accepting.{texts_spell}
 use Rattle.controller.proofs.Causes.{known_fault}
 use Rattle.controller.proofs.Exits.{all_asked, all_read, module_refused, parsed_here}
-use Rattle.controller.proofs.Gains.{gained_none}
+use Rattle.sink_lines.proofs.Gains.{gained_none}
 use Rattle.controller.proofs.texts_cell.texts_cell.Goals as goal
 
 pub cell_of-cell-requires-clause-spelled : goal.cell_of-cell-requires-clause-spelled

@@ -7,8 +7,8 @@ use Rattle.task_machine.specs.MachineData.{MachineData}
 use Rattle.cell_crew.specs.Courses.{SuitTasks}
 use Rattle.cell_crew.specs.Crew.{AskAsPrograms}
 use Rattle.cell_state.proofs.Replayed.{as_many}
-use Rattle.controller.specs.Loaded.{view_modules}
-use Rattle.controller.proofs.Compiling.{code_in, is_new}
+use Rattle.state_lines.specs.Sources.{view_modules}
+use Rattle.cell_runs.proofs.Compiling.{code_in, is_new}
 use Rattle.controller.proofs.Traced.{traced_closed}
 use Rattle.controller.proofs.trace_cell.report_traced.Goals as goal
 

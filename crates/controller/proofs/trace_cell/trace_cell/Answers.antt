@@ -1,8 +1,9 @@
 use Rattle.std.proofs.Common.{ap, length, map, sym, ◌∙◌}
 use Rattle.std.proofs.lemmas.List.{length-map}
 use Rattle.typed_trees.specs.Views.{view_tree}
-use Rattle.controller.specs.Loaded.{made_with, view_modules}
-use Rattle.controller.proofs.Compiling.{all_checked, seen_script}
+use Rattle.cell_loading.specs.Loaded.{made_with}
+use Rattle.state_lines.specs.Sources.{view_modules}
+use Rattle.controller.proofs.CheckedTrees.{all_checked, seen_script}
 use Rattle.controller.proofs.Traced.{turns_traced}
 use Rattle.controller.proofs.trace_cell.trace_cell.Goals as goal
 

@@ -1,8 +1,8 @@
 use Rattle.std.proofs.Common.{inl, map}
 use Rattle.typed_trees.specs.Views.{view_tree}
-use Rattle.controller.specs.Loaded.{view_modules}
+use Rattle.state_lines.specs.Sources.{view_modules}
 use Rattle.controller.proofs.Exits.{memory_refused}
-use Rattle.controller.proofs.Running.{crew_is, programs_ask, programs_suit}
+use Rattle.cell_runs.proofs.Running.{crew_is, programs_ask, programs_suit}
 use Rattle.controller.proofs.Traced.{asking_traced, legal_here}
 use Rattle.controller.proofs.trace_cell.trace_tasks.Goals as goal
 

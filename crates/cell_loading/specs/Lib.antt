@@ -1,0 +1,5 @@
+pub mod Refusals
+pub mod Files
+pub mod LoadFiles
+pub mod ReadModules
+pub mod Loaded

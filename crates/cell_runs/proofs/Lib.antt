@@ -1,0 +1,4 @@
+pub mod Compiling
+pub mod Running
+pub mod ZonesMissed
+pub mod Stalling

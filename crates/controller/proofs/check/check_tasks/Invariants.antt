@@ -1,6 +1,0 @@
-use Rattle.controller.specs.Loaded.{reads_in}
-use Rattle.controller.proofs.Checking.{Checking}
-use Rattle.controller.proofs.check.check_tasks.Given as goal
-
-abbrev pub invariant-loop-task : goal.invariant-loop-task
-invariant-loop-task l = Checking l.script (reads_in l.modules) l.task-index l.trees.items l.rest

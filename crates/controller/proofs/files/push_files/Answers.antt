@@ -1,8 +1,0 @@
-use Rattle.controller.specs.Loaded.{names_in_turn}
-use Rattle.controller.proofs.ModuleFiles.{file_pushed}
-use Rattle.controller.proofs.files.push_files.Goals as goal
-
-pub loop-file-preserved : goal.loop-file-preserved
-loop-file-preserved c =
-    file_pushed c.loop-file.found.items c.push.new.self.items (names_in_turn c.args.found.now.items) c.as_slice-files.result.now c.loop-file.file-index c.file-item.result c.as_str.result
-    c.loop-file-test.true c.file-item.is c.as_str.ensures c.in_ok-push.ensures.items c.loop-file.invariant

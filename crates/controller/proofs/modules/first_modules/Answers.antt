@@ -1,5 +1,0 @@
-use Rattle.controller.proofs.ReadModules.{first_reads}
-use Rattle.controller.proofs.modules.first_modules.Goals as goal
-
-pub returns-clause-taken : goal.returns-clause-taken
-returns-clause-taken c = first_reads c.args.modules.now.first c.args.modules.now.texts.now c.args.modules.now.trees.now c.args.count c.min-count.result c.requires.same c.min-count.ensures

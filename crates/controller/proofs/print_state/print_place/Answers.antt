@@ -1,5 +1,0 @@
-use Rattle.controller.proofs.PrintingState.{within_short}
-use Rattle.controller.proofs.print_state.print_place.Goals as goal
-
-pub write_task-requires-clause-texts : goal.write_task-requires-clause-texts
-write_task-requires-clause-texts g c = within_short c.args.sources.now.texts.now c.requires.texts

@@ -1,9 +1,0 @@
-use Rattle.std.proofs.Common.{◌≡◌, ◌≤◌, take}
-use Rattle.controller.specs.Output.{all_given}
-use Rattle.controller.proofs.print_summary.all_given.Given as goal
-
-abbrev pub invariant-loop-k : goal.invariant-loop-k
-invariant-loop-k l = record {
-  counted : l.given ≡ all_given (take l.k l.core.history);
-  few : l.given ≤ l.k;
-}

@@ -1,8 +1,0 @@
-use Rattle.std.proofs.Common.{◌≡◌}
-use Rattle.std.specs.List.{list_any}
-use Rattle.cell_meaning.specs.Fates.{fates_after}
-use Rattle.controller.specs.Runs.{is_fault}
-use Rattle.controller.proofs.run.has_fault.Given as goal
-
-abbrev pub invariant-loop-task : goal.invariant-loop-task
-invariant-loop-task l = l.found ≡ list_any is_fault (fates_after l.core.cell l.core.history l.task)

@@ -1,0 +1,4 @@
+mod Examples
+pub mod Fates
+pub mod Printing
+pub mod PrintingList

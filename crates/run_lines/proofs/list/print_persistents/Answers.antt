@@ -1,0 +1,18 @@
+use Rattle.std.proofs.lemmas.Result.{err_from_is_err_and}
+use Rattle.cell_listing.specs.Listing.{pers_line, numbered}
+use Rattle.run_lines.proofs.PrintingList.{printing_begins, row_failed, row_printed, rows_printed}
+use Rattle.run_lines.proofs.list.print_persistents.Goals as goal
+
+pub loop-k-init : goal.loop-k-init
+loop-k-init g c = printing_begins (numbered (pers_line c.args.tasks.now) 0 c.args.rows.now) _
+
+pub loop-k-preserved : goal.loop-k-preserved
+loop-k-preserved g c = row_printed (pers_line c.args.tasks.now) c.args.rows.now c.loop-k.k c.index-rows-k.result _ _ _ _ c.loop-k-test.true c.index-rows-k.is c.in_ok-print_persistent.ensures c.loop-k.invariant
+
+pub returns-in_err-print_persistent : goal.returns-in_err-print_persistent
+returns-in_err-print_persistent g c =
+    let p = err_from_is_err_and c.from_residual.result c.from_residual.ensures.1 in
+    rw (p.1) (row_failed (pers_line c.args.tasks.now) c.args.rows.now c.loop-k.k c.index-rows-k.result _ _ _ _ c.loop-k-test.true c.index-rows-k.is c.in_err-print_persistent.ensures c.loop-k.invariant)
+
+pub returns : goal.returns
+returns g c = rows_printed (pers_line c.args.tasks.now) c.args.rows.now c.loop-k.k _ _ c.loop-k-test.false c.loop-k.invariant

@@ -1,0 +1,4 @@
+mod Examples
+pub mod Lists
+pub mod Sending
+pub mod Gains

@@ -1,0 +1,2 @@
+pub mod PrintingState
+mod PrintingTrace

@@ -1,0 +1,23 @@
+use Rattle.std.proofs.lemmas.Result.{err_from_is_err_and}
+use Rattle.cell_listing.specs.Listing.{numbered}
+use Rattle.state_text.specs.StateLines.{element_of, value_line}
+use Rattle.run_lines.proofs.PrintingList.{printing_begins, row_failed, row_printed, rows_printed}
+use Rattle.state_lines.proofs.state.print_elements.Goals as goal
+
+pub loop-index-init : goal.loop-index-init
+loop-index-init g c = printing_begins (numbered (λ index. value_line c.args.tasks.now c.args.number c.args.row.now (element_of c.args.row.now.len index)) 0 c.args.values.now) _
+
+pub loop-index-preserved : goal.loop-index-preserved
+loop-index-preserved g c =
+    row_printed (λ index. value_line c.args.tasks.now c.args.number c.args.row.now (element_of c.args.row.now.len index)) c.args.values.now c.loop-index.index c.index-values-index.result _ _ _ _
+    c.loop-index-test.true c.index-values-index.is c.in_ok-print_value.ensures c.loop-index.invariant
+
+pub returns-in_err-print_value : goal.returns-in_err-print_value
+returns-in_err-print_value g c =
+    let p = err_from_is_err_and c.from_residual.result c.from_residual.ensures.1 in
+    rw (p.1) (row_failed (λ index. value_line c.args.tasks.now c.args.number c.args.row.now (element_of c.args.row.now.len index)) c.args.values.now c.loop-index.index c.index-values-index.result _ _ _ _
+    c.loop-index-test.true c.index-values-index.is c.in_err-print_value.ensures c.loop-index.invariant)
+
+pub returns : goal.returns
+returns g c =
+    rows_printed (λ index. value_line c.args.tasks.now c.args.number c.args.row.now (element_of c.args.row.now.len index)) c.args.values.now c.loop-index.index _ _ c.loop-index-test.false c.loop-index.invariant
