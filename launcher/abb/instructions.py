@@ -24,7 +24,7 @@ def instructed(at: Rendering, node: Instruct) -> Optional[str]:
         return called(at, node, meant)
     small = node.name.lower()
     if small in TOLD:
-        at.note(TO_DECIDE, node, f"{at.source(node)} is left out: moves go where they are programmed")
+        at.note(TO_DECIDE, node, f"{at.source(node)} is left out, with what it does to moves or interrupts")
     if small in LEFT_OUT:
         return None
     rule = INSTRUCTIONS.get(small)
