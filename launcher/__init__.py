@@ -47,15 +47,22 @@ All errors at once:
     watch           `watch CELL`
 A run:
     history         the lines of a history
+    events          where the events of a run come from: a run, or a history that was kept
     replay          a cell along a history: its arms, zones and signals
     trace           the lines of a trace: events with the places of statements
     table           `table CELL`
     timeline        the events of a run as columns of numbers
     show            `show CELL`; page/ has the page's parts: page.html, page.css, and its scripts
-    why             `why CELL`; why_faults, why_zones, why_waits and why_steps have the reasons, rings the tasks that wait for one another
+    why             `why CELL`; why_faults, why_errors, why_zones, why_waits, why_meetings and why_steps have the reasons, rings the
+                    tasks that wait for one another
     story           the tasks of a run along its events, and what changed last
+    tasks           a task of a run: its machine, its modules, what it did
+    caught          zones that became watched while an arm stood in them
+    pulses          for how long signals had a value, and where the tasks were then
     blame           which parts of a condition keep it from being TRUE
-    interrupts      the interrupts of the tasks, and which of them wait
+    interrupts      the interrupts of the tasks, and which of them wait; interrupt_words has them in words
+    state_notes     the interrupts below the lines of `state`
+    watched_gaps    `clearance --watched CELL`
     touching        where a way touches a zone
     coverage        which statements ran, and which lists inside them
     cover           `cover CELL..`
@@ -64,10 +71,12 @@ The code of tasks:
     code            the code of a task, walked along its statements
     lengths         the places where a task keeps its data, their names and first values
     constants       the values of constant expressions
-    machine         a task along its events; operations and arm_operations have those of its code, memory its data
+    machine         a task along its events; operations, arm_operations and raising have those of its code, memory its data
     values          values of RAPID, and what operators make of them
     writers         the statements that write a persistent or a signal
     listing         `list --source CELL`
+    lint            `lint CELL`; lint_data, lint_traps, lint_flow and lint_meetings have the checks, lint_places and lint_locks what
+                    these look at
 The language server:
     lsp             the server; lsp_wire, lsp_text, lsp_files, lsp_checker, lsp_diagnostics, lsp_hover, lsp_definition, lsp_completion
     symbols         what a name of a cell means

@@ -16,6 +16,7 @@ class Asked:
     has_lcov: bool = False
     has_run: bool = False
     has_source: bool = False
+    has_watched: bool = False
     is_plain: bool = False
     has_proved: bool = False
     has_unproved: bool = False
@@ -26,12 +27,19 @@ OPTIONS = {
     b"--lcov": "has_lcov",
     b"--run": "has_run",
     b"--source": "has_source",
+    b"--watched": "has_watched",
     b"--plain": "is_plain",
     b"--proved": "has_proved",
     b"--unproved": "has_unproved",
 }
 # The actions that options go with; the others go with all.
-GO_WITH = {"--all": ("check",), "--lcov": ("cover",), "--run": ("table", "show", "why"), "--source": ("list",)}
+GO_WITH = {
+    "--all": ("check",),
+    "--lcov": ("cover",),
+    "--run": ("table", "show", "why"),
+    "--source": ("list",),
+    "--watched": ("clearance",),
+}
 
 
 def taken_apart(given: Sequence[bytes]) -> Asked:

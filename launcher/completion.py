@@ -90,7 +90,7 @@ complete -c rapid_cell -n '__fish_seen_subcommand_from completion' -a '{shells}'
 
 def script(shell: str, command: str = COMMAND) -> str:
     """The completion for a shell, as its own language has it."""
-    cell = [it.name for it in ACTIONS if it.takes in ("CELL", "CELL..")]
+    cell = [it.name for it in ACTIONS if it.takes.startswith("CELL") and it.takes != "CELL HISTORY"]
     history = [it.name for it in ACTIONS if it.takes in ("CELL HISTORY", "RECORD")]
     return {"bash": BASH, "zsh": ZSH, "fish": FISH}[shell].format(
         command=command,

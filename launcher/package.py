@@ -82,7 +82,7 @@ def room_in(folder: Path) -> Iterator[Path]:
         for left in folder.glob(f"{ROOM}*"):
             shutil.rmtree(left, ignore_errors=True)
         with tempfile.TemporaryDirectory(prefix=ROOM, dir=folder) as room:
-            yield Path(room)
+            yield Path(room).resolve()
     except BlockingIOError:
         raise Refused(f"another package is being written into {folder}: wait until it is done", NOT_PRINTED) from None
     finally:

@@ -91,7 +91,10 @@ def said(lines: Sequence[str]) -> List[str]:
 def script_of(words: Sequence[bytes]) -> Optional[Path]:
     """The script's path among words that name one."""
     others = [word for word in words if word != hints.HISTORY]
-    return Path(os.fsdecode(others[1])) if others and len(others) == actions.word_count(others[0]) else None
+    if not others:
+        return None
+    counts = [actions.word_count(others[0])] if actions.is_programs_action(others[0]) else [2, 3, 4]
+    return Path(os.fsdecode(others[1])) if len(others) in counts else None
 
 
 def history_of(words: Sequence[bytes]) -> Optional[bytes]:

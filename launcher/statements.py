@@ -50,7 +50,7 @@ class Statement:
 @dataclass
 class Datum:
     """A declared datum: CONST, VAR or PERS, the name of its type, its own name, whether only its module sees it, the tokens of its
-    length if it is an array, and those of its value."""
+    length if it is an array, those of its value, and the token of its name."""
 
     kind: str
     type: str
@@ -58,6 +58,7 @@ class Datum:
     is_local: bool
     length: Sequence[Token]
     value: Sequence[Token]
+    name_at: int
 
 
 @dataclass
@@ -159,11 +160,11 @@ class Reader:
 
     def datum(self, is_local: bool = False) -> Datum:
         kind, sort, name = self.word(), self.tokens[self.k + 1].text, self.tokens[self.k + 2].text
-        length = self.k + 3
+        at, length = self.k + 2, self.k + 3
         value = self.after(length, "{", "}")
         self.k = value
         past = self.past(";")
-        return Datum(kind, sort, name, is_local, self.tokens[length + 1 : max(value - 1, length + 1)], self.tokens[value + 1 : past - 1])
+        return Datum(kind, sort, name, is_local, self.tokens[length + 1 : max(value - 1, length + 1)], self.tokens[value + 1 : past - 1], at)
 
     def routine(self, start: int) -> Routine:
         kind = self.word()

@@ -1,19 +1,21 @@
 """The story of a run: its tasks along its events, and what changed last and by whom."""
 from collections import Counter
 from pathlib import Path
-from typing import Callable, Dict, Iterator, List, NamedTuple, Optional, Sequence, Tuple
+from typing import Callable, Dict, Iterator, List, NamedTuple, Optional, Tuple
 
 from . import lengths, script, texts
+from .caught import Watching
 from .code import Misfit, Walk
-from .excerpt import Place
 from .history import INPUTS, Event, end_of
 from .interrupts import Interrupts
 from .listing import Listing
-from .machine import Code, Machine
-from .memory import Held
+from .machine import Machine
+from .pulses import Pulses
+from .raising import Code
 from .replay import Replay
-from .statements import Routine, Source, source_of
-from .texts import Cell, Module, line_of, read_cell
+from .statements import source_of
+from .tasks import OPEN, Change, Task
+from .texts import Cell, read_cell
 from .trace import Reader, Traced
 from .values import read_value
 
@@ -21,17 +23,8 @@ from .values import read_value
 UNCOUNTED = ("Input", "End")
 
 
-class Change(NamedTuple):
-    """What an event changed: its number, the task or `-` for the input script, the place in the task's code, and the new value."""
-
-    event: int
-    actor: str
-    pc: int
-    value: Held
-
-
 class Stand(NamedTuple):
-    """A task at a meeting: how often it went on there, whether it waits, and for which tasks, bit k for task k."""
+    """A task at a meeting: how often it went on there, whether it waits, and which tasks it listed last, bit k for task k."""
 
     passed: int = 0
     waits: bool = False
@@ -40,77 +33,6 @@ class Stand(NamedTuple):
     @property
     def arrivals(self) -> int:
         return self.passed + self.waits
-
-
-class Task:
-    """A task: its machine, its modules with their texts, how it ended, its last event, and how many events and looks each statement had
-    that looked, by its place in the code. `notes` say why it ended with a fault; if a signal had to do with that, `later` is its next
-    change. `meeting` is the last one that it came to."""
-
-    def __init__(self, name: str, machine: Machine, modules: Sequence[Module], held: Sequence[bytes]) -> None:
-        self.name, self.machine, self.modules, self.texts = name, machine, modules, held
-        self.fate = ""
-        self.notes: List[str] = []
-        self.signal: Optional[int] = None
-        self.meeting = -1
-        self.later: Optional[Change] = None
-        self.number, self.last = -1, Event(name, "", "", "")
-        self.spots: Dict[int, Place] = {}
-        self.events: Dict[int, int] = Counter()
-        self.looks: Dict[int, int] = Counter()
-
-    @property
-    def code(self) -> Code:
-        return self.machine.code
-
-    @property
-    def routines(self) -> List[Routine]:
-        return [it for source in self.code.sources for it in source.routines]
-
-    @property
-    def counted(self) -> int:
-        return sum(self.events.values())
-
-    def source(self, pc: int) -> Tuple[Module, bytes, Source]:
-        """The module that a place in the code belongs to."""
-        owner = self.code.walk.owners[pc]
-        assert owner
-        return self.modules[owner.module], self.texts[owner.module], self.code.sources[owner.module]
-
-    def spot(self, pc: int) -> Place:
-        """Where the statement of a place in the code stands in its module."""
-        if pc not in self.spots:
-            self.spots[pc] = self.spot_of(pc)
-        return self.spots[pc]
-
-    def spot_of(self, pc: int) -> Place:
-        owner = self.code.walk.owners[pc]
-        assert owner
-        _, text, source = self.source(pc)
-        row, column = source.place_of(owner.first)
-        last = source.tokens[owner.past - 1]
-        end = last.end - source.lines[row - 1] if source.row(last.at) == row else len(line_of(text, row))
-        return Place(row, column, max(end - column + 1, 1))
-
-    def where(self, pc: int) -> str:
-        """The same in words."""
-        return f"line {self.spot(pc).row} of {self.source(pc)[0].name}"
-
-    def line(self, pc: int) -> str:
-        return line_of(self.source(pc)[1], self.spot(pc).row).decode("utf-8", "replace").strip()
-
-    def routine(self, pc: int) -> str:
-        """The routine of a place in the code, as `PROC main`."""
-        owner = self.code.walk.owners[pc]
-        assert owner
-        found = self.routines[owner.routine]
-        return f"{found.kind} {found.name}"
-
-    def words(self, pc: int) -> List[str]:
-        """The tokens of a statement."""
-        owner = self.code.walk.owners[pc]
-        assert owner
-        return [it.text for it in self.source(pc)[2].tokens[owner.first : owner.past]]
 
 
 class Story:
@@ -128,6 +50,7 @@ class Story:
         self.persistents: Dict[str, Change] = {}
         self.meetings: Dict[Tuple[int, int], Stand] = {}
         self.interrupts = Interrupts()
+        self.watching, self.pulses = Watching(self.script, self.own_zone), Pulses()
         # How many setpoints each arm was given.
         self.given: Dict[str, int] = Counter()
         self.tasks = [self.task(number, listing) for number in range(len(self.script.tasks))]
@@ -148,11 +71,29 @@ class Story:
 
     def take(self, lines: Iterator[str]) -> None:
         for line in lines:
-            if line.startswith("E "):
-                name, fate = end_of(line)
-                self.by_name[name].fate = fate
-            else:
-                self.go_on(self.reader.read(line))
+            self.line(line)
+
+    def line(self, line: str) -> Optional[Traced]:
+        """Goes on by a line. Returns its event, with the place of its statement also if the line has none."""
+        if line.startswith("E "):
+            name, fate = end_of(line)
+            self.by_name[name].fate = fate
+            return None
+        traced = self.placed(self.reader.read(line))
+        self.go_on(traced)
+        return traced
+
+    def placed(self, traced: Traced) -> Traced:
+        task = self.by_name.get(traced.event.actor)
+        if traced.place or not task or task.machine.looked < 0:
+            return traced
+        return traced._replace(place=task.place(task.machine.looked))
+
+    def settle(self, is_open: bool) -> None:
+        """Gives each task of which the history does not say how it ended the end that it has by its events."""
+        is_spent = self.counted >= self.script.steps
+        for task in self.tasks:
+            task.fate = task.fate or (OPEN if is_open else "Cut" if is_spent else "Held")
 
     def go_on(self, traced: Traced) -> None:
         """Goes on by an event."""
@@ -162,11 +103,13 @@ class Story:
             pc, looked = task.machine.pc, task.machine.looked
             self.compare(task, traced)
             task.machine.take(event)
-            if event.kind != "End":
+            if event.kind == "End":
+                task.fate = event.request.partition(" ")[2]
+            else:
                 task.number, task.last = self.count, event
                 task.events[looked] += 1
                 task.looks[pc] += event.kind == "Look" and event.answer.startswith("Go ")
-            if task.machine.origin and not task.fate:
+            if task.machine.origin and not task.has_failed:
                 self.fail(task, event)
         self.counted += event.kind not in UNCOUNTED
         self.inputs += event.kind == "Input"
@@ -176,7 +119,7 @@ class Story:
     def fail(self, task: Task, event: Event) -> None:
         """A task ends with a fault by its next event, or by this one if it has none before."""
         ending = event.request if event.kind == "End" else task.machine.asked
-        task.fate = ending.partition(" ")[2]
+        task.fate, task.has_failed = ending.partition(" ")[2], True
         task.notes = self.explain(self, task)
 
     def compare(self, task: Task, traced: Traced) -> None:
@@ -191,7 +134,10 @@ class Story:
         """Keeps what an event changes."""
         changes = self.replay.take(event)
         self.interrupts.take(event, self.count, changes)
+        self.watching.take(event, Change(self.count, event.actor, pc, None), self.replay, changes)
+        self.pulses.take(event, self.count)
         for signal, value in changes:
+            self.pulses.change(signal, value, self.count, self.tasks)
             change = self.signals[signal] = Change(self.count, event.actor, pc, value)
             for task in self.tasks:
                 if task.signal == signal and not task.later:
@@ -208,7 +154,13 @@ class Story:
             self.by_name[event.actor].meeting = int(meeting)
             at = int(meeting), self.script.task(event.actor)
             passed = self.meetings.get(at, Stand()).passed
-            self.meetings[at] = Stand(passed + 1) if event.answer == "Met" else Stand(passed, True, int(listed))
+            has_met = event.answer == "Met"
+            self.meetings[at] = Stand(passed + has_met, not has_met, int(listed))
+
+    def own_zone(self, key: Tuple[int, int]) -> str:
+        """A zone of an arm in words, by the numbers of its task and its own."""
+        task, number = self.tasks[key[0]], key[1]
+        return f"zone {number} of the task, `{task.machine.zones[number].name}`"
 
     def last_write(self, path: str) -> Optional[Change]:
         return self.persistents.get(root_of(path))
@@ -219,11 +171,6 @@ class Story:
             return f"the input script at event {change.event}"
         task = self.by_name[change.actor]
         return f"{change.actor} at event {change.event}, {task.where(change.pc)}: {task.line(change.pc)}"
-
-
-def many(count: int, what: str) -> str:
-    """A count of things."""
-    return f"{count:,} {what}" + ("" if count == 1 else "s")
 
 
 def root_of(path: str) -> str:

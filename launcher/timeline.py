@@ -5,7 +5,7 @@ array of numbers, which the page reads in place.
 """
 import sys
 from array import array
-from typing import Any, Dict, List, Optional, Sequence, Tuple, Union
+from typing import Any, Callable, Dict, List, Optional, Sequence, Tuple, Union
 
 from .history import INPUTS, Event
 from .replay import OwnZone, Replay
@@ -46,8 +46,10 @@ class Span:
 
 
 class Timeline:
-    def __init__(self, script: Script) -> None:
-        self.script, self.replay = script, Replay(script)
+    """`zone_name` gives a zone of an arm its name, by the numbers of the task and of the zone."""
+
+    def __init__(self, script: Script, zone_name: Callable[[int, int], str]) -> None:
+        self.script, self.replay, self.zone_name = script, Replay(script), zone_name
         self.numbers = {it.name: number for number, it in enumerate(script.tasks)}
         self.count = 0
         self.actors, self.kinds, self.lines = bytearray(), bytearray(), bytearray()
@@ -112,14 +114,15 @@ class Timeline:
         """Opens and closes the spans of a task's own zones."""
         zones = self.replay.zones[self.script.tasks[task].name]
         for number in range(1, 11):
-            self.watch(task, f"zone {number}", zones.get(number))
+            self.watch(task, f"zone {number}", zones.get(number), number)
 
     def watch_cell(self) -> None:
         for it in self.script.zones:
             is_on = self.replay.signals[it.signal] == it.value
             self.watch(it.task, it.name, OwnZone(it.shape, None) if is_on else None)
 
-    def watch(self, task: int, name: str, zone: Optional[OwnZone]) -> None:
+    def watch(self, task: int, name: str, zone: Optional[OwnZone], number: int = 0) -> None:
+        """Opens or closes the span of a zone; a zone of the arm has a number."""
         span = self.open.get((task, name))
         # What an event changes counts from the next event on.
         now = len(self.actors)
@@ -128,7 +131,8 @@ class Timeline:
             del self.open[task, name]
             span = None
         if zone and zone.is_on and not span:
-            span = Span(task, name, zone.shape, zone.change[0] if zone.change else None, now)
+            shown = self.zone_name(task, number) if number else name
+            span = Span(task, shown, zone.shape, zone.change[0] if zone.change else None, now)
             self.open[task, name] = span
             self.spans.append(span)
 

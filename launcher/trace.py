@@ -4,12 +4,10 @@ An M line is that of a history with the place between the task and the request: 
 the module as the script names it. Where a task has not looked yet, and for the input script, the place is `- -`.
 """
 import re
-from typing import Callable, Iterable, Iterator, NamedTuple, Optional, Tuple
+from typing import Iterable, NamedTuple, Optional, Tuple
 
-from . import history, program
-from .hints import HISTORY
+from . import history
 from .history import Event
-from .program import Answer, Program
 
 PLACE = re.compile(r"(\d+):(\d+) ")
 NOWHERE = "- - "
@@ -52,12 +50,3 @@ class Reader:
             if found:
                 return Place(name, int(found[1]), int(found[2])), words[found.end() :]
         raise ValueError(f"no place in a module of the cell: {words[:80]}")
-
-
-def read_events(found: Program, name: bytes, action: bytes, take: Callable[[Iterator[str]], None]) -> Answer:
-    """Runs a cell, and hands the lines of its events to `take`: with places if it runs by turns and the program traces it."""
-    if action == b"round":
-        answer = program.read(found, [b"trace", name], take)
-        if answer.err != NO_TRACE:
-            return answer
-    return program.read(found, [action, name, HISTORY], take)

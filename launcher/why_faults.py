@@ -4,9 +4,10 @@ from typing import Callable, Dict, Iterator, List, Sequence
 from . import why_zones
 from .constants import ERRORS
 from .explain import cause_of, instead_of
-from .machine import TRAPPED, Link, Origin
+from .raising import TRAPPED, Link, Origin
 from .memory import Held, Place, Shape
-from .story import Story, Task, many
+from .story import Story
+from .tasks import Task, many
 from .values import ERR_DIVZERO, Mark, shown
 
 # How many values that a statement has read are shown, how many calls from each end, and how many kinds of interrupts.

@@ -2,7 +2,8 @@
 from typing import Dict, Iterator, List, Tuple
 
 from .statements import FOR, WHILE, Statement
-from .story import Story, Task, many
+from .story import Story
+from .tasks import Task, many
 
 # How many lines are shown, and the columns of their counts.
 MOST, COLUMN = 8, 13

@@ -4,9 +4,12 @@ from typing import Dict, Iterator, List, NamedTuple, Optional, Tuple
 from .blame import blamed
 from .history import INPUTS
 from .memory import MODULE, SHARED, Place
-from .story import Change, Story, Task, many
+from .story import Story
+from .tasks import Change, Task, many
+from .pulses import missed_text
 from .values import shown
 from .why_faults import called, traps
+from .why_meetings import at_meeting
 from .writers import Writers
 
 # Of a task: what each other one that waits could do for it.
@@ -31,7 +34,7 @@ class Waits:
         edges: Edges = {}
         word = task.words(task.machine.pc)[0].lower()
         if word == "waitsynctask":
-            notes = list(self.meeting(task, edges))
+            notes = list(at_meeting(self, task, edges))
         elif word == "waittestandset":
             notes = list(self.lock(task, edges))
         else:
@@ -80,6 +83,9 @@ class Waits:
         found, bit = self.story.script.signals[signal], task.machine.signals[signal]
         waits = f", and it waits for {1 - bit}" if is_clear else ""
         yield f"{found.name} is {bit}{waits}: {self.since(self.story.signals.get(signal))}"
+        missed = self.story.pulses.missed(task, signal, 1 - bit) if is_clear else None
+        if missed:
+            yield missed_text(task, found.name, 1 - bit, missed)
         if found.kind == "di":
             yield from self.inputs(task, signal, 1 - bit, edges)
         else:
@@ -155,7 +161,7 @@ class Waits:
         if story.counted < it.after:
             yield f"{name} waits until {many(it.after, 'event')} are counted; there were {story.counted:,}"
 
-    # Locks and meetings
+    # Locks
 
     def lock(self, task: Task, edges: Edges) -> Iterator[str]:
         place = list(task.machine.reads)[-1]
@@ -170,23 +176,3 @@ class Waits:
             yield f"{other.name} has it and did not release it; it {self.how(other)}"
             if self.is_stuck(other, task):
                 edges[other.name] = f"{name}, which {other.name} has"
-
-    def meeting(self, task: Task, edges: Edges) -> Iterator[str]:
-        """Who has come to a meeting, and who has not."""
-        number = self.story.tasks.index(task)
-        meeting = task.meeting
-        own = self.story.meetings[meeting, number]
-        name, here = self.story.names["G"][meeting], []
-        for k, other in enumerate(self.story.tasks):
-            stand = self.story.meetings.get((meeting, k))
-            if k == number or not own.listed >> k & 1:
-                continue
-            if stand and stand.arrivals > own.passed:
-                here.append(other.name)
-                continue
-            came = f"came {many(stand.arrivals, 'time')}, and not this time" if stand and stand.arrivals else "has not come"
-            yield f"{other.name} {came} to the meeting {name}; it {self.how(other)}"
-            if self.is_stuck(other, task):
-                edges[other.name] = f"{other.name}, which has not come to the meeting {name}"
-        if here:
-            yield f"already there: {', '.join(here)}"

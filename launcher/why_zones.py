@@ -1,10 +1,12 @@
 """Why a zone stops an arm, or an output is not written."""
-from typing import List
+from typing import Iterator, List
 
 from .arm_operations import axis_name
+from .caught import START, Caught
 from .replay import OwnZone
 from .script import Axes, Shape, degrees, thousandths
-from .story import Story, Task
+from .story import Story
+from .tasks import Task, many
 from .touching import bounds_text, touch
 
 
@@ -14,7 +16,7 @@ def stopped(story: Story, task: Task) -> List[str]:
     start, end = story.replay.at(task.name) or (), tuple(map(thousandths, task.last.request.split()[1:]))
     if whose == "Own":
         zone = story.replay.zones[task.name][int(number)]
-        return [way(start, end, zone.shape, own_name(task, int(number))), *own(task, int(number), zone)]
+        return [way(start, end, zone.shape, story.own_zone((story.tasks.index(task), int(number)))), *own(task, int(number), zone)]
     found = story.script.zones[int(number)]
     task.signal = found.signal
     return [way(start, end, found.shape, f"the zone `{found.name}` of the script"), watched(story, int(number))]
@@ -29,10 +31,6 @@ def way(start: Axes, end: Axes, shape: Shape, name: str) -> str:
     goes = f"{axis_name(axis)} would go from {degrees(start[axis])} to {degrees(end[axis])}"
     how = "comes to" if shape.is_inside else "passes"
     return f"{goes}, and {how} the bound {degrees(bound)} of {name}: {bounds_text(shape)}"
-
-
-def own_name(task: Task, number: int) -> str:
-    return f"zone {number} of the task, `{task.machine.zones[number].name}`"
 
 
 def own(task: Task, number: int, zone: OwnZone) -> List[str]:
@@ -73,3 +71,33 @@ def full(task: Task) -> List[str]:
     """The notes of a ZoneFull: the zones that there are."""
     found = [f"`{made.name}` (line {task.spot(made.pc).row})" for _, made in sorted(task.machine.zones.items())]
     return [f"the arm has ten zones, and WZFree is the only end of one: {', '.join(found)}"]
+
+
+# Zones that became watched while an arm stood in them
+
+# How many are shown.
+MOST = 8
+
+
+def all_caught(story: Story) -> Iterator[str]:
+    """A head, and two lines for each."""
+    found = story.watching.caught
+    if found:
+        yield "zones that became watched while an arm stood in them:"
+    for it in found[:MOST]:
+        yield f"  {caught(story, it)}"
+        yield f"    {stood(story, it)}"
+    if found[MOST:]:
+        yield f"  and {many(len(found) - MOST, 'more time')}"
+
+
+def caught(story: Story, it: Caught) -> str:
+    """By what a zone became watched."""
+    return f"{it.name}, from the start" if it.by == START else f"{it.name}, by {story.by(it.by)}"
+
+
+def stood(story: Story, it: Caught) -> str:
+    """Where the arm stood, and since when."""
+    axes = ", ".join(f"{axis_name(axis)} at {degrees(it.at[axis])}" for axis in sorted(it.shape.bounds))
+    since = "from the start" if it.since == START else f"since event {it.since.event}, {story.by(it.since).partition(', ')[2]}"
+    return f"the arm of {story.tasks[it.task].name} stands there with {axes} ({bounds_text(it.shape)}), {since}"

@@ -8,7 +8,7 @@ from . import actions, build, hints, kept, program
 from .asked import Asked, ended, found_program, helped, made_program, misplaced, taken_apart
 from .places import IS_INSTALLED
 from .program import Program
-from .run_words import OF_RUNS, listed
+from .run_words import OF_RUNS, clearance, listed
 from .say import (
     NO_PROGRAM,
     NOT_PRINTED,
@@ -82,6 +82,8 @@ def ask(given: List[bytes]) -> int:
         return of_run(asked)
     if asked.has_source and refused_place(words) is None:
         return listed(asked)
+    if asked.has_watched and refused_place(words) is None:
+        return clearance(asked)
     return of_program(asked)
 
 
@@ -203,7 +205,20 @@ def run(asked: Asked, found: Program) -> int:
         if hints.is_pipe(word):
             say(f"{hints.shown_word(word)} is a pipe: it is read until its writer closes it")
     ran = program.run(found, asked.words)
+    if b"state" in asked.words[:2] and ran.status == 0:
+        add_notes(asked, found)
     return helped(asked, ran.status, ran.err)
+
+
+def add_notes(asked: Asked, found: Program) -> None:
+    """Says below a state how the interrupts are."""
+    from .state_notes import notes
+
+    try:
+        for it in notes(found, asked.words):
+            say(it)
+    except (OSError, ValueError, LookupError) as error:
+        say(f"the interrupts are not shown ({error})")
 
 
 def all_checked(asked: Asked, found: Program) -> int:

@@ -1,8 +1,8 @@
 """The statements that write a persistent or a signal, by the code of a task."""
-from typing import Dict, List, Optional, Set, Tuple
+from typing import Any, Dict, List, Optional, Set, Tuple
 
 from .code import Op
-from .machine import Code
+from .raising import Code
 from .values import SIZES
 
 # How many operands each operation takes, and how many it leaves; those with others are below.
@@ -46,7 +46,7 @@ class Writers:
                 for number in {it for it in taken if it is not None}:
                     self.persistents.setdefault(number, []).append(pc)
 
-    def pop(self, stack: List[Operand], op: Op) -> List[Operand]:
+    def pop(self, stack: List[Any], op: Op) -> List[Any]:
         """Takes the operands of an operation, and leaves its results."""
         takes, leaves = self.effect(op)
         taken = stack[len(stack) - takes :] if takes else []

@@ -4,9 +4,14 @@
     cells        every example and every module of the documents, with what it has to answer
     spreadsheet  `table`, over every example
     pages        `show`: its pages, run by node in the document of browser.js
+    page_rows    the rows of a page, the places of all tasks, the reasons, and two histories side by side
     browsing     `show` in headless Chromium (chromium), which bench/show_browser runs
     covers       `trace`, `cover`, and the places on pages, on the cells of traced/ and their traces
     sources      `list --source`, over every example
+    state_words  what is said of interrupts below the lines of `state`
+    kept_runs    `why`, `show`, `table` and `cover` of a history
+    second_machine    the launcher's machine against `trace` and `state`, over every example
+    planted      `lint`, on the cells of planted/, and over every example
     histories    the whole history of each example's run, against its lines
     words        the command line, the help, completion, and streams that fail
     refused      refusals, as they are shown

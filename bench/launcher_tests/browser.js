@@ -3,7 +3,7 @@
 //
 //     node browser.js PAGE < COMMANDS
 //
-// Each line of COMMANDS is an expression of the page's own scripts, with `page` the page, `press(key)` a key on the picture, `click(x, y)`
+// Each line of COMMANDS is an expression of the page's own scripts, with `page` the page, `press(key)` a key, `click(x, y)`
 // a click on it, `drawn()` what was drawn last, `details()` what is shown of the chosen event, and `svg(width)` the whole picture as SVG,
 // in the page's own colours. Its value is printed as JSON.
 const fs = require("fs");
@@ -66,8 +66,8 @@ class Element {
     for (const act of this.listeners[name] || []) act({ preventDefault() {}, target: this, ...event });
   }
 
-  closest() {
-    return this;
+  closest(selector) {
+    return selector === ".line" ? this : null;
   }
 
   scrollIntoView() {}
@@ -137,13 +137,15 @@ async function main() {
   window.devicePixelRatio = 1;
   window.matchMedia = () => new Element("media");
   const names = { console, document, window, Blob, Response, DecompressionStream, TextDecoder, atob };
-  const context = vm.createContext({ ...names, location: { hash: process.argv[3] || "" }, history: { replaceState() {} } });
+  const location = { hash: process.argv[3] || "" };
+  const history = { replaceState: (_state, _title, address) => (location.hash = address) };
+  const context = vm.createContext({ ...names, location, history });
   context.ResizeObserver = class {
     observe() {}
   };
   context.getComputedStyle = () => ({ getPropertyValue: (name) => name.slice(2) });
   const element = document.getElementById;
-  context.press = (key, more) => element("scroll").send("keydown", { key, ...more });
+  context.press = (key, more) => document.send("keydown", { key, ...more });
   context.click = (x, y) => {
     for (const name of ["pointerdown", "pointerup"]) element("canvas").send(name, { offsetX: x, offsetY: y - element("scroll").scrollTop });
   };

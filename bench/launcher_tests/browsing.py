@@ -206,6 +206,8 @@ def tried(shown, cell, pictures):
     lines = try_lines(shown, cell, name)
     counts = try_counts(shown, cell, name)
     overlaps(shown, name)
+    try_rows(shown, cell, name)
+    try_policy(shown, name)
     shown.pictures(pictures, name)
     return f"{clicks} events clicked, {lines} lines clicked, {counts} counts of lines, {keys} keys"
 
@@ -281,7 +283,6 @@ def try_keys(shown, cell, name):
         browser.press(key, shift)
         compare_event(shown, cell, f"{name}: key {'Shift ' * shift}{key}", wanted)
 
-    tab_to(browser, name, "scroll")
     own = [k for k, it in enumerate(cell.events) if it.actor == cell.events[0].actor]
     press("Home", 0)
     press("ArrowRight", 1)
@@ -308,14 +309,6 @@ def try_keys(shown, cell, name):
     return used + 3 + line_by_key(shown, cell, name)
 
 
-def tab_to(browser, name, wanted):
-    for _ in range(30):
-        browser.press("Tab")
-        if browser.value("document.activeElement.id") == wanted:
-            return
-    compare(f"{name}: Tab comes to #{wanted}", False, True)
-
-
 def line_by_key(shown, cell, name):
     """Enter goes to the text; there the arrows choose a line, and Enter its next event."""
     module, row = shown.browser.value(MARKED)
@@ -330,6 +323,28 @@ def line_by_key(shown, cell, name):
     shown.browser.press("Enter")
     compare_event(shown, cell, f"{name}: Enter on line {rows[0]}", next((k for k in own if k > before), own[0]))
     return 2 + rows[0] - row
+
+
+def try_rows(shown, cell, name):
+    """The ruler and the lanes stay when the picture is scrolled; a row that is hidden goes, and the address brings it back."""
+    names = ["event", *cell.tasks]
+    tops = {text: y for text, _, y, _ in shown.words() if text in names}
+    shown.browser.value('document.getElementById("scroll").scrollTop = 60')
+    shown.browser.value(TWO_FRAMES)
+    compare(f"{name}: rows that stay", {text: y for text, _, y, _ in shown.words() if text in names}, tops)
+    shown.browser.value('document.getElementById("scroll").scrollTop = 0')
+    shown.browser.value('document.getElementById("choice").open = true')
+    shown.browser.value('document.querySelector("#rows div:nth-child(2) button").click()')
+    compare(f"{name}: a row that is hidden", (cell.tasks[0] in [it[0] for it in shown.words()], "rows=" in shown.browser.value("location.hash")), (False, True))
+    shown.browser.value('document.getElementById("reset").click()')
+    shown.browser.value('document.getElementById("choice").open = false')
+    compare(f"{name}: rows as at first", {text: y for text, _, y, _ in shown.words() if text in names}, tops)
+
+
+def try_policy(shown, name):
+    """The browser runs no script but the page's own."""
+    added = "(() => { const it = document.createElement('script'); it.textContent = 'window.added = 1'; document.body.append(it); return window.added === undefined; })()"
+    compare(f"{name}: a script that was added", shown.browser.value(added), True)
 
 
 def try_addresses(shown, cell, name):

@@ -54,6 +54,10 @@ class Case:
         """The action's words: `history` is `round` with the whole history."""
         return ("--history", "round") if self.action == "history" else (self.action,)
 
+    def files(self):
+        """The script, and for `state` the history beside it."""
+        return (self.script, self.script.with_name("so_far")) if self.action == "state" else (self.script,)
+
     def compare(self, status, lines):
         """Of `run` the status and the E lines, since the order of the others may differ from run to run."""
         if self.action == "run":
@@ -70,10 +74,10 @@ def run_all():
         for case in cases:
             if "worked" in case.script.parts:
                 how = {"cwd": elsewhere, "stdin": subprocess.DEVNULL, "stdout": subprocess.PIPE, "stderr": subprocess.PIPE}
-                ran = subprocess.run([started, *case.words(), case.script], **how)
+                ran = subprocess.run([started, *case.words(), *case.files()], **how)
                 status, out, err = ran.returncode, text_of(ran.stdout), text_of(ran.stderr)
             else:
-                status, out, err = ask("--plain", *options, *case.words(), case.script, cwd=elsewhere)
+                status, out, err = ask("--plain", *options, *case.words(), *case.files(), cwd=elsewhere)
             case.compare(status, out + err)
     return len(cases)
 

@@ -87,3 +87,42 @@ def proves(zone, start, end, gap, sides):
 
 def gap_words(zone, number, gap):
     return " ".join(["G", zone["name"], number, *(f"{it.numerator}/{it.denominator}" for it in gap)])
+
+
+def try_watched_clearances():
+    """The least gap of each zone over the moves that were given while it was watched, by the script and the history."""
+    count = 0
+    for cell in CELLS:
+        script = tomllib.loads(cell.read_text())
+        status, whole, _ = ask("--plain", "--history", "round", cell)
+        wanted = []
+        for zone in script.get("zone", []):
+            watched = watched_events(script, whole, zone)
+            gaps = [(least(zone, *move[1:])[0], int(move[0])) for move in moves(script, whole, zone["task"]) if move[0] in watched]
+            gap = min(gaps, default=None)
+            wanted.append(f"W {zone['name']} {gap[1]} {gap[0].numerator}/{gap[0].denominator}" if gap else f"W {zone['name']} - -")
+        found, out, err = ask("--plain", "clearance", "--watched", cell)
+        lines = out.splitlines()
+        compare(f"watched gaps of {cell.parent.name}", (found, [it for it in lines if it[0] == "W"], err), (status, wanted, ""))
+        plain = ask("--plain", "clearance", cell)[1].splitlines()
+        compare(f"the other lines of {cell.parent.name}", [it for it in lines if it[0] != "W"], plain)
+        count += sum(not it.endswith("- -") for it in wanted)
+    compare("zones that were watched", count > 2, True)
+    compare("--watched without clearance", ask("--watched", "check", CELLS[0])[:2], (2, ""))
+
+
+def watched_events(script, history, zone):
+    """The numbers of the events before which the signal of a zone had its value; no arm's zone sets it here."""
+    names = [it["name"] for it in script["signal"]]
+    values = {it["name"]: it.get("start", 0) for it in script["signal"]}
+    found = set()
+    for number, line in enumerate(it for it in history.splitlines() if it[0] == "H"):
+        if values[zone["signal"]] == zone["value"]:
+            found.add(str(number))
+        words = line.split()
+        if words[2] == "WriteS":
+            values[names[int(words[3][1:])]] = int(words[4])
+        elif words[2] == "Input":
+            given = script["input"][int(words[3])]
+            values[given["signal"]] = given["value"]
+    return found

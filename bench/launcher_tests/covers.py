@@ -29,17 +29,17 @@ BRANCHES = {
     "a.mod": [],
 }
 TEXT = """the lists.mod: 13 of 17 lines, 9 of 14 branches
-    14 never: n := 6;
-    22 never: TEST without one of its lists
-    24 never: TPWrite "one";
-    29 never: the statement of IF
-    33 never: TPWrite "never";
-    38 never: TPWrite "unused";
+    14 never ran: n := 6;
+    22 one of the CASEs of this TEST was taken each time
+    24 never ran: TPWrite "one";
+    29 the condition of this IF was never TRUE
+    33 never ran: TPWrite "never";
+    38 never ran: TPWrite "unused";
 main.mod: 5 of 5 lines, 1 of 2 branches
-     7 never: IF without one of its lists
+     7 the condition of this IF was TRUE each time
 fetch.mod: 2 of 2 lines, 2 of 2 branches
 b.mod: 4 of 4 lines, 1 of 2 branches
-     4 never: IF without one of its lists
+     4 the condition of this IF was TRUE each time
 a.mod: 5 of 5 lines, 0 of 0 branches
 """
 LCOV = """TN:

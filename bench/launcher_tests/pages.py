@@ -65,13 +65,14 @@ def has_node():
     return False
 
 
-def page_of(folder, script, action=b"round", started=None):
+def page_of(folder, script, started=None):
     """Writes the page of a cell. Returns its path and the status."""
+    from launcher.events import Run
     from launcher.program import Program
     from launcher.show import write_page
 
     page = Path(folder, "page.html")
-    answer = write_page(Program(started, False) if started else program(), str(script).encode(), script, action, page)
+    answer = write_page(Program(started, False) if started else program(), str(script).encode(), script, Run(), page)
     return page, answer.status
 
 
@@ -163,8 +164,8 @@ def try_stories():
     """What docs/SEEING.md says of the pages of its stories."""
     if not has_node():
         return
-    reasons = 'document.getElementById("ends").children.map((it) => it.children[2].textContent.split(". Last: ")[1] || "")'
-    for name, wanted in (("shared_table", ["", "Setpoint 60 0 0 0 0 0 > Stopped table"]), ("worked/cells/deadlock", ["ReadP b > FALSE", "ReadP a > FALSE"])):
+    reasons = 'document.getElementById("ends").children.map((it) => it.children[2].children[1]?.textContent || "")'
+    for name, wanted in (("shared_table", ["", "ZoneStop at line 8 of rob2.mod"]), ("worked/cells/deadlock", ["waits here at line 5 of a.mod", "waits here at line 5 of b.mod"])):
         with tempfile.TemporaryDirectory() as folder:
             page, _ = page_of(folder, EXAMPLES / name / "cell.toml")
             compare(f"reasons of {name}", browsed(page, reasons), [wanted])
@@ -209,7 +210,7 @@ def try_page_command():
         module.write_text(module.read_text().replace("fine", "z10", 1))
         status, out, err = ask("--plain", *options, "show", "first/cell.toml", "-o", "other.html", cwd=folder)
         compare("show of a refused cell", (status, out, "CornerZone" in err, Path(folder, "other.html").exists()), (4, "", True, False))
-    for words in (("show",), ("show", "a", "-o"), ("show", "a", "b"), ("show", "-o", "a")):
+    for words in (("show",), ("show", "--run", "a", "b"), ("show", "a", "b", "c", "d"), ("show", "-o", "a")):
         compare(f"{words}", ask(*words)[:2], (2, ""))
 
 

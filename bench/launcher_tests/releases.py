@@ -151,12 +151,14 @@ def try_package_twice():
         slow.write_text(SLOW)
         slow.chmod(0o755)
         words = [sys.executable, frame.top / "rapid_cell", "package", "-o", to]
+        left = set()
         for sent, status in ((signal.SIGKILL, -9), (signal.SIGTERM, 143), (signal.SIGINT, 130)):
             how = {"stdout": subprocess.PIPE, "stderr": subprocess.PIPE, "start_new_session": True, "env": frame.environment("good")}
             started = subprocess.Popen(words, cwd="/", **how)
-            wait_for(lambda: list(to.glob(".rapid-cell-*/*.deb")))
+            wait_for(lambda: set(to.glob(".rapid-cell-*/*.deb")) - left)
             os.killpg(started.pid, sent) if sent is not signal.SIGTERM else started.send_signal(sent)
             started.communicate(timeout=60)
+            left = set(to.glob(".rapid-cell-*/*.deb"))
             compare(f"package, signal {sent}", started.returncode, status)
             if sent is not signal.SIGKILL:
                 compare(f"package, signal {sent}, nothing is left", list(to.iterdir()), [])

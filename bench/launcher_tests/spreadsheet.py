@@ -96,7 +96,7 @@ def try_table_command():
     status, out, err = ask("--plain", *options, "table", EXAMPLES / "faults/syntax/cell.toml")
     compare("table of a refused cell", (status, out, err.startswith("rapid_cell: module ")), (4, "", True))
     compare("table of no file", ask("--plain", *options, "table", folder / "none.toml")[:2], (5, ""))
-    for words in (("table",), ("table", "a", "b"), ("--run", "check", "a"), ("table", "/dev/null")):
+    for words in (("table",), ("table", "a", "b", "c"), ("table", "--run", "a", "b"), ("--run", "check", "a"), ("table", "/dev/null")):
         compare(f"{words}", ask(*words)[:2], (2, ""))
     full = os.open("/dev/full", os.O_WRONLY)
     compare("table to a full device", ask(*options, "table", folder / "cell.toml", before=lambda: os.dup2(full, 1))[:2], (6, ""))

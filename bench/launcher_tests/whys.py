@@ -37,12 +37,12 @@ def started(story):
 
 def story_of(script, action):
     """A run that is read: with the places of its statements, if the program traces it."""
+    from launcher.events import Run, read_events
     from launcher.story import Story
-    from launcher.trace import read_events
     from launcher.why_faults import notes_of
 
     story = Story(script, listing_of(script), notes_of)
-    read_events(program(), os.fsencode(script), action.encode(), story.take)
+    read_events(program(), os.fsencode(script), Run(action.encode()), story.take)
     return story
 
 
@@ -135,13 +135,14 @@ def try_whys_of_documents():
 
 def try_whys_of_traces():
     """The places of a trace are those of the statements that look, and a trace gives the same answer as a history."""
+    from launcher.events import Run
     from launcher.story import Story
     from launcher.why import explained
     from launcher.why_faults import notes_of
 
     for cell in ("lists", "handler", "trap"):
         script = TRACED / cell / "cell.toml"
-        answer = explained(program(), os.fsencode(script), script, b"round", False)
+        answer = explained(program(), os.fsencode(script), script, Run(), False)
         by_history = Story(script, listing_of(script), notes_of)
         by_history.take(iter(printed(program().file, "round", script, "--history")))
         compare(f"why of the trace of {cell}", answer.out.decode().splitlines(), started(by_history))
@@ -162,7 +163,7 @@ def try_why_command():
     status, out, err = ask("--plain", *options, "why", EXAMPLES / "faults/syntax/cell.toml")
     compare("why of a refused cell", (status, out, err.startswith("rapid_cell: module ")), (4, "", True))
     compare("why of no file", ask("--plain", *options, "why", EXAMPLES / "none.toml")[:2], (5, ""))
-    for words in (("why",), ("why", "a", "b"), ("why", "/dev/null"), ("--lcov", "why", "a")):
+    for words in (("why",), ("why", "a", "b", "c"), ("why", "--run", "a", "b"), ("why", "/dev/null"), ("--lcov", "why", "a")):
         compare(f"{words}", ask(*words)[:2], (2, ""))
     full = os.open("/dev/full", os.O_WRONLY)
     compare("why to a full device", ask(*options, "why", file, before=lambda: os.dup2(full, 1))[:2], (6, ""))

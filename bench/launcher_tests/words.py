@@ -71,7 +71,7 @@ def try_help():
     for words in (("-h",), ("help",), ("check", "--help"), ("build", "-h")):
         compare(f"help by {words}", ask(*words), page)
     compare("help has no line too long", max(map(len, page[1].splitlines())) <= 130, True)
-    for name in ("check", "round", "run", "list", "load", "audit", "state", "clearance", "trace", "migrate", "table", "show", "why", "cover", "explain", "build", "package", "proved", "watch", "lsp", "completion", "--history", "--all", "--run", "--source", "--lcov", "-o", "--gate", "--plain", "--proved"):
+    for name in ("check", "round", "run", "list", "load", "audit", "state", "clearance", "trace", "migrate", "table", "show", "why", "lint", "cover", "explain", "build", "package", "proved", "watch", "lsp", "completion", "--history", "--all", "--run", "--source", "--lcov", "--keep", "--watched", "-o", "--gate", "--plain", "--proved"):
         compare(f"help has {name}", name in page[1], True)
     status, out, err = ask()
     compare("no word", (status, out, err.startswith("rapid_cell: words 0\n"), "./rapid_cell check CELL" in err), (2, "", True, True))
@@ -124,6 +124,7 @@ def try_completion():
         (["package", "--gate", f"{EXAMPLES}/first_move/ce"], str(FIRST)),
         (["cover", str(FIRST), f"{EXAMPLES}/first_move/"], str(FIRST)),
         (["show", "-o", f"{EXAMPLES}/first_move/first"], f"{EXAMPLES}/first_move/first_move.mod"),
+        (["why", f"{EXAMPLES}/first_move/"], str(FIRST)),
         (["--all", "check", f"{EXAMPLES}/first_move/ce"], str(FIRST)),
     )
     lines = f"source <({LAUNCHER} completion bash)\n"

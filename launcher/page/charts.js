@@ -8,6 +8,10 @@ class Signal extends Row {
     this.changes = changes;
   }
 
+  get isStill() {
+    return !this.events.length;
+  }
+
   at(event) {
     const k = below(this.events, event + 1);
     return k ? this.changes.values[k - 1] : this.changes.start;
@@ -78,6 +82,10 @@ class Stored extends Row {
     const numbers = Float64Array.from(changes.events, (_, k) => Number(changes.values[k]));
     this.numbers = numbers.length > 2 && numbers.every((it) => !Number.isNaN(it)) ? numbers : null;
     if (this.numbers) this.range = rangeOf(numbers, numbers[0]);
+  }
+
+  get isStill() {
+    return this.events.length < 2;
   }
 
   value(event) {
@@ -182,6 +190,10 @@ class Axis extends Row {
     this.high = high + margin;
   }
 
+  get isStill() {
+    return this.most[0] === this.most[1] && !this.spans.length;
+  }
+
   get scale() {
     const [low, high] = this.most;
     return low === high ? [[degrees(low), this.height / 2]] : [[degrees(high), 10], [degrees(low), this.height - 10]];
@@ -218,5 +230,17 @@ class Axis extends Row {
       const room = Math.min(pen.view.x(end), pen.view.left + pen.view.width) - x - 4;
       pen.text(name, x + 3, Math.min((inside ? high : top) + 7, top + height - 6), "ink", room);
     }
+  }
+}
+
+// The rows of a group that never change, in one line.
+class Still extends Row {
+  constructor(rows) {
+    super("never changes", 20, new Uint32Array(0));
+    this.words = rows.map((it) => `${it.label} ${it.value(Number.MAX_SAFE_INTEGER)}`).join(", ");
+  }
+
+  draw(pen, y) {
+    pen.text(this.words, pen.view.left + 4, y + 10, "muted", pen.view.width - 8);
   }
 }

@@ -20,7 +20,9 @@ class Page {
     this.tall = document.getElementById("tall");
     this.texts = new Texts(run, document.getElementById("module"), document.getElementById("lines"));
     this.isPrinted = false;
+    this.list = new RowList(this.picture.choices, document.getElementById("rows"), () => this.arrange());
     this.fillHead();
+    fillParting(run, document.getElementById("parting"), (event) => this.choose(event));
     this.listen();
     this.texts.fill();
     this.resize();
@@ -31,12 +33,12 @@ class Page {
     const { cell, count } = this.run;
     document.title = cell.title;
     document.getElementById("title").textContent = cell.title;
-    const isFree = cell.action === "run";
-    const how = isFree ? "each task on a thread of its own: one of the runs that the cell can have" : "by turns";
+    const hows = { run: "each task on a thread of its own: one of the runs that the cell can have", history: "of a history that was kept" };
+    const how = hows[cell.action] || "by turns";
     document.getElementById("summary").textContent = `${count.toLocaleString("en")} events, ${how}`;
     const body = document.getElementById("ends");
     cell.tasks.forEach((task, number) => {
-      const cells = [made("th", task.name), made("td", task.fate), made("td", reasonOf(this.run, number))];
+      const cells = [made("th", task.name), made("td", task.fate), reasonOf(task)];
       const row = made("tr", "", ...cells);
       row.className = /^(Done|Exit)$/.test(task.fate) ? "good" : "bad";
       const last = this.run.last(number);
@@ -45,7 +47,12 @@ class Page {
       row.append(made("td", "", ...(last >= 0 ? [button] : [])));
       body.append(row);
     });
-    if (!cell.hasPlaces) document.getElementById("without").hidden = false;
+    const caught = document.getElementById("caught");
+    for (const it of cell.caught) {
+      const line = made("div", `event ${it.event}: an arm is caught in ${it.words}`);
+      line.addEventListener("click", () => this.choose(it.event));
+      caught.append(line);
+    }
   }
 
   listen() {
@@ -55,7 +62,13 @@ class Page {
     on("all", "click", () => this.whole());
     on("find", "keydown", (event) => event.key === "Enter" && this.find(event.target.value, event.shiftKey ? -1 : 1));
     on("next", "click", () => this.find(document.getElementById("find").value, 1));
-    this.scroll.addEventListener("keydown", (event) => this.key(event));
+    // The keys go to the picture from wherever the focus is, but for places that have keys of their own.
+    document.addEventListener("keydown", (event) => this.key(event));
+    on("reset", "click", () => {
+      this.picture.choices.reset();
+      this.list.fill();
+      this.arrange();
+    });
     this.scroll.addEventListener("scroll", () => this.draw());
     this.scroll.addEventListener("wheel", (event) => this.wheel(event), { passive: false });
     this.canvas.addEventListener("pointerdown", (event) => this.press(event));
@@ -75,6 +88,7 @@ class Page {
 
   resize() {
     const ratio = window.devicePixelRatio || 1;
+    this.picture.layOut(this.isPrinted ? Infinity : this.scroll.clientHeight);
     // First the height, since a scroll bar takes some of the width.
     this.tall.style.height = `${this.picture.height}px`;
     const width = this.scroll.clientWidth;
@@ -99,6 +113,12 @@ class Page {
     this.picture.draw(this.context, colours, letter, this.isPrinted ? 0 : this.scroll.scrollTop, height);
   }
 
+  // The rows are other ones, or in another order.
+  arrange() {
+    this.resize();
+    this.name(this.picture.chosen);
+  }
+
   print(isPrinted) {
     this.isPrinted = isPrinted;
     document.documentElement.classList.toggle("print", isPrinted);
@@ -113,14 +133,18 @@ class Page {
     this.describe(event);
     const place = this.run.place(event);
     if (place) this.texts.show(place[0], place[1]);
+    const pointers = this.run.cell.tasks.map(({ name }, task) => ({ name, at: this.run.pointer(task, event) }));
+    this.texts.point(pointers.filter(({ at }) => at).map(({ name, at }) => ({ name, module: at[0], row: at[1] })));
     this.name(event);
     this.draw();
   }
 
-  // Puts an event into the page's address, if the browser lets a page do so.
+  // Puts an event, and rows that were chosen, into the page's address, if the browser lets a page do so.
   name(event) {
+    const { choices } = this.picture;
+    const words = [...(event >= 0 ? [`event=${event}`] : []), ...(choices.isChanged ? [`rows=${choices.text}`] : [])];
     try {
-      history.replaceState(null, "", `#event=${event}`);
+      history.replaceState(null, "", `#${words.join("&")}`);
     } catch {
       return;
     }
@@ -142,10 +166,15 @@ class Page {
     if (wanted) this.choose(this.run.next(this.picture.chosen, step, isFound));
   }
 
-  // The event that the page's address names.
+  // The event and the rows that the page's address names.
   follow() {
-    const found = /^#event=(\d+)$/.exec(location.hash);
-    if (found) this.choose(Number(found[1]));
+    const found = new Map(location.hash.slice(1).split("&").map((it) => it.split("=")));
+    if (found.has("rows")) {
+      this.picture.choices.text = found.get("rows");
+      this.list.fill();
+      this.resize();
+    }
+    if (/^\d+$/.test(found.get("event") || "")) this.choose(Number(found.get("event")));
   }
 
   describe(event) {
@@ -175,7 +204,8 @@ class Page {
   }
 
   key(event) {
-    if (event.ctrlKey || event.altKey || event.metaKey) return;
+    // The text of a module has taken its keys before.
+    if (event.defaultPrevented || event.ctrlKey || event.altKey || event.metaKey || hasOwnKeys(event)) return;
     const act = {
       ArrowRight: () => this.choose(this.picture.step(1, event.shiftKey)),
       ArrowLeft: () => this.choose(this.picture.step(-1, event.shiftKey)),
@@ -211,7 +241,7 @@ class Page {
   }
 
   move(event) {
-    if (!this.pressed) return this.hover(this.picture.eventAt(event.offsetX, this.top(event)));
+    if (!this.pressed) return this.hover(this.picture.eventAt(event.offsetX, event.offsetY, this.scroll.scrollTop));
     const { view } = this.picture;
     const by = event.offsetX - this.pressed.x;
     if (Math.abs(by) > 3) this.pressed.moved = true;
@@ -222,13 +252,9 @@ class Page {
   }
 
   release(event) {
-    if (this.pressed && !this.pressed.moved) this.choose(this.picture.eventAt(event.offsetX, this.top(event)));
+    if (this.pressed && !this.pressed.moved) this.choose(this.picture.eventAt(event.offsetX, event.offsetY, this.scroll.scrollTop));
     this.pressed = null;
     this.scroll.focus();
-  }
-
-  top(event) {
-    return event.offsetY + this.scroll.scrollTop;
   }
 
   hover(event) {
@@ -265,18 +291,19 @@ function detailsOf(run, event) {
     found.push(["place", `${module.name} ${place[1]}:${place[2]}`], ["statement", module.lines[place[1] - 1].trim()]);
   }
   found.push(["asks", words.slice(0, at)], ["answer", words.slice(at + 3)]);
+  for (const it of run.cell.caught) if (it.event === event) found.push(["catches an arm", it.words]);
   return [...found, ["in the history", `H ${actor} ${run.words(event)}`]];
 }
 
-// Why a task ended as it did, and what its last statement asked, if it did not reach its end.
-function reasonOf(run, task) {
-  const { fate, cause } = run.cell.tasks[task];
-  const last = run.last(task);
-  if (last < 0 || !/^(Held|Fault)/.test(fate)) return cause;
-  const own = run.own[task];
-  const events = [...own.subarray(below(own, run.look(last)) + 1)];
-  const asked = events.filter((k) => ![run.kind.Hold, run.kind.End].includes(run.kinds[k]));
-  return asked.length ? `${cause}. Last: ${asked.slice(-4).map((k) => run.readable(k)).join(", ")}` : cause;
+// Whether an element uses the keys itself: what takes words, and a button for Enter and Space.
+function hasOwnKeys({ key, target }) {
+  if (target.closest?.("input, select, textarea")) return true;
+  return (key === "Enter" || key === " ") && Boolean(target.closest?.("button, summary"));
+}
+
+// Why a task ended as it did: what the documents say of such an end, and below that what `why` says of this one.
+function reasonOf({ cause, notes }) {
+  return made("td", "", made("div", cause), ...notes.map((it) => made("div", it)));
 }
 
 async function start() {

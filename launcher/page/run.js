@@ -195,6 +195,13 @@ class Run {
     return -1;
   }
 
+  // The place of the statement that a task is at after an event, or null.
+  pointer(task, event) {
+    const own = this.own[task];
+    const k = below(own, event + 1) - 1;
+    return k < 0 ? null : this.place(own[k]);
+  }
+
   // The value of a column of changes after an event.
   valueAt(changes, event, start) {
     const k = below(changes.events, event + 1);

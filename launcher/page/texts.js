@@ -9,6 +9,8 @@ class Texts {
     this.module = 0;
     this.row = 1;
     this.onLine = () => {};
+    // The statement that each task is at: its name, module and line.
+    this.pointers = [];
     run.cell.modules.forEach((it, k) => choice.append(optionOf(it, k)));
     choice.addEventListener("change", () => this.show(Number(choice.value), 1));
     lines.addEventListener("click", (event) => this.click(event));
@@ -20,6 +22,23 @@ class Texts {
     // One by one, since a module may have more lines than a call takes arguments.
     for (const line of linesOf(this.run.cell, this.module)) this.lines.append(line);
     this.mark();
+    this.drawPointers();
+  }
+
+  // Shows where all tasks are, each by its name beside its line.
+  point(pointers) {
+    this.pointers = pointers;
+    this.drawPointers();
+  }
+
+  drawPointers() {
+    for (const line of this.pointed || []) line.children[2].textContent = "";
+    const here = this.pointers.filter((it) => it.module === this.module);
+    this.pointed = here.map((it) => this.lines.children[it.row - 1]).filter(Boolean);
+    for (const { name, row } of here) {
+      const mark = this.lines.children[row - 1]?.children[2];
+      if (mark) mark.textContent = mark.textContent ? `${mark.textContent} ${name}` : `\u25b6 ${name}`;
+    }
   }
 
   // Shows a line of a module, as the chosen one.
@@ -98,7 +117,7 @@ function linesOf(cell, number) {
   if (!module) return [];
   return module.lines.map((text, k) => {
     const count = module.counts[k + 1];
-    const parts = [made("span", String(k + 1)), made("span", countText(count)), made("code", text || " ")];
+    const parts = [made("span", String(k + 1)), made("span", countText(count)), made("b"), made("code", text || " ")];
     const line = made("div", "", ...parts);
     line.className = count === 0 ? "line never" : count ? "line ran" : "line";
     line.dataset.row = String(k + 1);

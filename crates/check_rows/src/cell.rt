@@ -1,6 +1,6 @@
 //! Cells of rows.
 
-use anyhow::bail;
+use anyhow::{Context, bail};
 use std::alloc::{AllocError, Global};
 
 /// The place after a `^`: the module, and the line and the column from 1.
@@ -11,7 +11,7 @@ pub struct Mark {
     pub column: usize,
 }
 
-/// A file of a cell, or none.
+/// A file of a cell, what `round` prints of the cell, or neither.
 #[derive(Clone, Copy)]
 enum File {
     None,
@@ -19,6 +19,7 @@ enum File {
     A,
     B,
     C,
+    Printed,
 }
 
 impl File {
@@ -28,6 +29,7 @@ impl File {
             "a.mod" => File::A,
             "b.mod" => File::B,
             "c.mod" => File::C,
+            "printed" => File::Printed,
             _ => bail!("{name} is no file of a cell"),
         })
     }
@@ -40,6 +42,8 @@ pub struct Cell {
     pub a: String,
     pub b: String,
     pub c: String,
+    /// What `round` prints, if the frame says so.
+    pub printed: String,
 }
 
 impl Cell {
@@ -50,17 +54,24 @@ impl Cell {
             a: String::new(alloc),
             b: String::new(alloc),
             c: String::new(alloc),
+            printed: String::new(alloc),
         };
         let mut texts = texts.iter();
         let mut file = File::None;
         for line in frame.lines() {
             if let Some(name) = line.strip_prefix("file ") {
                 file = File::named(name)?;
-            } else if line == "..." {
+            } else if line == "..." || line == "...." {
                 let text = texts.next().map(|text| text.as_str()).unwrap_or("");
                 cell.add(file, text)?;
+                if line == "..." {
+                    cell.add(file, "\n")?;
+                }
+            } else if let Some(rest) = line.strip_prefix("times ") {
+                cell.repeat(file, rest)?;
             } else {
                 cell.add(file, line)?;
+                cell.add(file, "\n")?;
             }
         }
         if texts.next().is_some() {
@@ -69,18 +80,27 @@ impl Cell {
         Ok(cell)
     }
 
-    /// Adds a line to a file.
-    fn add(&mut self, file: File, line: &str) -> Result<(), AllocError> {
+    /// Adds a number's times the text after it.
+    fn repeat(&mut self, file: File, line: &str) -> anyhow::Result<()> {
+        let (count, text) = line.split_once(' ').context("a number and a text")?;
+        let count = count.parse::<u32>().ok().context("a number")?;
+        for _ in 0..count {
+            self.add(file, text)?;
+        }
+        Ok(())
+    }
+
+    /// Adds a text to a file.
+    fn add(&mut self, file: File, added: &str) -> Result<(), AllocError> {
         let text = match file {
             File::None => return Ok(()),
             File::Script => &mut self.script,
             File::A => &mut self.a,
             File::B => &mut self.b,
             File::C => &mut self.c,
+            File::Printed => &mut self.printed,
         };
-        text.push_str(line)?;
-        text.push('\n')?;
-        Ok(())
+        text.push_str(added)
     }
 
     /// The text of a file, or an empty one if the cell has no such file.

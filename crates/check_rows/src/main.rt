@@ -12,8 +12,13 @@
 //! cell is checked; or a key of the script and a rule. The key of a whole script is `-`.
 //!
 //! In a frame's file a line `file NAME` starts a file of the cell, the script `cell.toml` or a module: `a.mod`, `b.mod`
-//! or `c.mod`. The lines before the first one say what the frame is. Each line `...` stands for the next text of a row,
-//! or for an empty line if none is left.
+//! or `c.mod`; `file printed` starts what `round` prints of the cell. The lines before the first one say what the frame
+//! is. Each line `...` stands for the next text of a row, or for an empty line if none is left, `....` for the same
+//! without its line feed, and `times N TEXT` for a text that comes N times.
+//!
+//! In `calls.txt` a row's first text has calls, with `; ` between them: command words, as `piece.rt` spells them. Each of
+//! them tells what the row says: the status, how many events the report has, and what is printed, with `\n` for a line
+//! feed, or `printed` for the lines that the frame gives. After `migrated` the script is what `migrate` prints of it.
 //!
 //! In `damage.txt` a frame is a whole cell, which a row does something with: its texts are the command words, the
 //! damage, and what fails; the last two may be empty or missing.
@@ -25,18 +30,21 @@
 //!   0, fails. `room N`: the first sink takes no more than so many bytes.
 //!
 //! Such a row says how it ends, or with ` or ` between them several ways: the status; how many bytes are printed, which
-//! start the lines of `round.txt`; how many events the report has; whether the place of a refused module is before the
-//! damage, at it or past it; and the line on the second sink. A `*` stands for any text. Of an audit it says the status,
-//! and what is printed.
+//! start the lines that the frame gives; how many events the report has; whether the place of a refused module is before
+//! the damage, at it or past it; and the line on the second sink. A `*` stands for any text. Of `audit` and `state` it
+//! says the status, and what is printed.
 #![tactic(auto)]
 
+mod call;
 mod cell;
+mod piece;
 mod place;
 mod row;
 mod told;
 mod trial;
 
-use anyhow::Context;
+use anyhow::{Context, bail};
+use call::call_told;
 use cell::Cell;
 use row::{Group, read_groups};
 use std::fs;
@@ -53,6 +61,8 @@ fn main(rt: HostRuntime) -> anyhow::Result<()> {
             let frame = fs::read_to_string(&rt, path.as_str())?;
             if name.as_str() == "damage.txt" {
                 try_group(&rt, group, frame.as_str())?;
+            } else if name.as_str() == "calls.txt" {
+                call_group(&rt, group, frame.as_str())?;
             } else {
                 check_group(&rt, group, frame.as_str())?;
             }
@@ -88,17 +98,49 @@ fn check_group(rt: &HostRuntime, group: &Group<'_>, frame: &str) -> anyhow::Resu
     Ok(())
 }
 
+/// Makes the calls of the rows of a group.
+fn call_group(rt: &HostRuntime, group: &Group<'_>, frame: &str) -> anyhow::Result<()> {
+    let mut counts = Counts {
+        tries: 0,
+        agreeing: 0,
+    };
+    for row in &group.rows {
+        let Some((calls, texts)) = row.texts.as_slice().split_first() else {
+            bail!("the row of line {} has no calls", row.line);
+        };
+        let cell = Cell::new(rt.alloc(), frame, texts).context(format_args!(
+            "the row of line {}",
+            row.line
+        ))?;
+        for call in calls.as_str().split("; ") {
+            counts.tries = counts.tries.wrapping_add(1);
+            let told = call_told(rt.alloc(), &cell, call)?;
+            if told.as_str() == row.told {
+                counts.agreeing = counts.agreeing.wrapping_add(1);
+            } else {
+                println!(rt;
+                    "the row of line {} says {}, and {call} tells {}",
+                    row.line,
+                    row.told,
+                    told.as_str()
+                )?;
+            }
+        }
+    }
+    println!(rt; "{} of {}: {}", counts.agreeing, counts.tries, group.title)?;
+    Ok(())
+}
+
 /// Does what the rows of a group say with the cell of its frame.
 fn try_group(rt: &HostRuntime, group: &Group<'_>, frame: &str) -> anyhow::Result<()> {
     let cell = Cell::new(rt.alloc(), frame, &[])?;
-    let lines = fs::read(rt, "round.txt")?;
     let mut counts = Counts {
         tries: 0,
         agreeing: 0,
     };
     for row in &group.rows {
         let trial = Trial::read(row.texts.as_slice());
-        trial.run(rt, row, &cell, lines.as_slice(), &mut counts)?;
+        trial.run(rt, row, &cell, &mut counts)?;
     }
     println!(rt; "{} of {}: {}", counts.agreeing, counts.tries, group.title)?;
     Ok(())

@@ -1,6 +1,7 @@
 //! What a call tells.
 
 use super::cell::{Cell, unmarked};
+use super::piece::words_of;
 use anyhow::{Context, bail};
 use controller::{Report, is_run, quiet};
 use outside::{MemoryShelf, MemorySink};
@@ -19,6 +20,18 @@ pub struct Faults {
     pub room: u32,
 }
 
+impl Faults {
+    /// Nothing fails.
+    pub fn none() -> Faults {
+        Faults {
+            read: NEVER,
+            out: NEVER,
+            err: NEVER,
+            room: NEVER,
+        }
+    }
+}
+
 /// The report of a call, and what it printed.
 #[derive(Drop)]
 pub struct Outcome {
@@ -29,12 +42,7 @@ pub struct Outcome {
 
 /// The status of the check of a cell, and what it prints.
 pub fn told_of(alloc: Global, cell: &Cell) -> anyhow::Result<Vec<u8>> {
-    let faults = Faults {
-        read: NEVER,
-        out: NEVER,
-        err: NEVER,
-        room: NEVER,
-    };
+    let faults = Faults::none();
     let shelf = shelf_of(alloc, cell, "", b"", &faults)?;
     let outcome = outcome_of(alloc, "check cell.toml", shelf, &faults)?;
     let mut told = format!(in alloc; "{} ", outcome.report.status)?.into_bytes();
@@ -50,10 +58,7 @@ pub fn outcome_of(
     mut shelf: MemoryShelf,
     faults: &Faults,
 ) -> anyhow::Result<Outcome> {
-    let mut list = Vec::new(alloc);
-    for word in words.split(' ') {
-        list.push(word)?;
-    }
+    let list = words_of(alloc, words)?;
     if is_run(list.as_slice()) {
         bail!("these words run on threads");
     }
@@ -61,6 +66,13 @@ pub fn outcome_of(
     let mut err = sink_of(alloc, NEVER, faults.err)?;
     let report = quiet(alloc, list.as_slice(), &mut shelf, &mut out, &mut err);
     Ok(Outcome { report, out, err })
+}
+
+/// What a call printed on both sinks, without blanks at the end, and with `\n` for a line feed.
+pub fn lines_of(alloc: Global, outcome: &Outcome) -> Result<String, AllocError> {
+    let mut lines = Vec::from_slice(alloc, outcome.out.bytes())?;
+    lines.extend_from_slice(outcome.err.bytes())?;
+    format!(in alloc; "{}", lines.as_slice().trim_ascii_end().escape_ascii())
 }
 
 /// A sink that takes so many bytes, and fails at the write with this number.

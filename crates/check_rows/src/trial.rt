@@ -1,9 +1,10 @@
 //! Trials: cells with a damaged file, and devices that fail.
 
 use super::cell::Cell;
+use super::piece::piece_of;
 use super::place::side_of;
 use super::row::Row;
-use super::told::{Faults, NEVER, Outcome, outcome_of, shelf_of};
+use super::told::{Faults, NEVER, lines_of, outcome_of, shelf_of};
 use std::alloc::{AllocError, Global};
 
 /// What a row tries; the head of main.rt says how a row spells it.
@@ -48,11 +49,10 @@ impl<'a> Trial<'a> {
         rt: &HostRuntime,
         row: &Row<'_>,
         cell: &Cell,
-        lines: &[u8],
         counts: &mut Counts,
     ) -> anyhow::Result<()> {
         for at in self.first..self.past {
-            let told = self.told(rt.alloc(), cell, lines, at as usize)?;
+            let told = self.told(rt.alloc(), cell, at as usize)?;
             counts.tries = counts.tries.wrapping_add(1);
             if is_due(told.as_slice().trim_ascii_end(), row.told) {
                 counts.agreeing = counts.agreeing.wrapping_add(1);
@@ -69,19 +69,21 @@ impl<'a> Trial<'a> {
     }
 
     /// What is told if the file is damaged at a byte.
-    fn told(&self, alloc: Global, cell: &Cell, lines: &[u8], at: usize) -> anyhow::Result<Vec<u8>> {
+    fn told(&self, alloc: Global, cell: &Cell, at: usize) -> anyhow::Result<Vec<u8>> {
         let whole = cell.text(self.file).as_bytes();
         let damaged = self.damaged(alloc, whole, at)?;
         let faults = self.faults();
         let shelf = shelf_of(alloc, cell, self.file, damaged.as_slice(), &faults)?;
         let outcome = outcome_of(alloc, self.words, shelf, &faults)?;
-        if self.words.starts_with("audit ") {
-            return audit_told(alloc, &outcome);
+        if self.words.starts_with("audit ") || self.words.starts_with("state ") {
+            let lines = lines_of(alloc, &outcome)?;
+            let told = format!(in alloc; "{} {}", outcome.report.status, lines.as_str())?;
+            return Ok(told.into_bytes());
         }
         let mut told = format!(in alloc;
             "{}, {} bytes, {} events{} ",
             outcome.report.status,
-            printed_of(outcome.out.bytes(), lines),
+            printed_of(outcome.out.bytes(), cell.printed.as_bytes()),
             outcome.report.history.len(),
             side_of(&outcome.report, whole, at)
         )?
@@ -113,14 +115,6 @@ impl<'a> Trial<'a> {
     }
 }
 
-/// What an audit tells: its status, and the lines on both sinks.
-fn audit_told(alloc: Global, outcome: &Outcome) -> anyhow::Result<Vec<u8>> {
-    let mut told = format!(in alloc; "{} ", outcome.report.status)?.into_bytes();
-    told.extend_from_slice(outcome.out.bytes())?;
-    told.extend_from_slice(outcome.err.bytes())?;
-    Ok(told)
-}
-
 /// The text with this number, from 0, or an empty one.
 fn text_at(texts: &[String], number: usize) -> &str {
     match texts.get(number) {
@@ -135,19 +129,6 @@ fn number_of(word: Option<&str>, other: u32) -> u32 {
         Some(word) => word.parse::<u32>().ok().unwrap_or(other),
         None => other,
     }
-}
-
-/// The bytes of a text, in which `/` is a line feed and `~` the byte FF.
-fn piece_of(alloc: Global, text: &str) -> Result<Vec<u8>, AllocError> {
-    let mut bytes = Vec::new(alloc);
-    for byte in text.bytes() {
-        bytes.push(match byte {
-            b'/' => b'\n',
-            b'~' => 0xFF,
-            other => other,
-        })?;
-    }
-    Ok(bytes)
 }
 
 /// How many bytes were printed, if they start these lines or are the line of an accepted cell.

@@ -1,5 +1,5 @@
-//! Tests of clearances: gaps worked by hand, ten thousand random segments and zones against a second computation from the
-//! definition and against points of the segment, and the gaps that the controller prints of a run.
+//! Tests of clearances: gaps worked by hand, and ten thousand random segments and zones against a second computation from
+//! the definition and against points of the segment.
 #![tactic(auto)]
 
 #[cfg(test)]
@@ -13,13 +13,9 @@ mod exact;
 #[cfg(test)]
 mod fraction;
 #[cfg(test)]
-mod gap_line;
-#[cfg(test)]
 mod limits;
 #[cfg(test)]
 mod lines;
-#[cfg(test)]
-mod printed;
 #[cfg(test)]
 mod random;
 #[cfg(test)]

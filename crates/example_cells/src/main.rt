@@ -1,6 +1,7 @@
 //! Runs the examples in its folder, and prints of each run whether the status and the lines are those kept with the
 //! example; of `run` the status and the fates of the tasks. A line of the standard input names an action and an
-//! example; `history` is `round` with the whole history. For `audit` the whole histories that `round` and `run` print are
+//! example; `history` is `round` with the whole history, and `state` shows where the cell is after the history in the file
+//! `so_far` beside the example. For `audit` the whole histories that `round` and `run` print are
 //! audited: each must be found legal and whole, with an event for each of its lines of events.
 #![tactic(auto)]
 
@@ -16,6 +17,9 @@ const ROOM: usize = 65_536;
 
 /// The file of the history that is audited.
 const PRINTED: &str = "printed_history";
+
+/// The file beside an example with the history whose state is printed.
+const SO_FAR: &str = "so_far";
 
 fn main(rt: HostRuntime) -> anyhow::Result<()> {
     for line in rt.lines(rt.alloc()) {
@@ -61,7 +65,7 @@ fn refused_audit<R: Files + AllocGlobal + Threads + Wait + Sync>(
     print_history(rt, action, script)?;
     let events = lines_of_events(fs::read(rt, PRINTED)?.as_slice());
     let wanted = format!(in rt.alloc(); "status 0\nA legal {events} whole\n")?;
-    let got = told_by(rt, &["audit", script, PRINTED], script, true)?;
+    let got = told_by(rt, &["audit", script, PRINTED], script, PRINTED, true)?;
     fs::remove_file(rt, PRINTED)?;
     Ok(unless_same(got, wanted.as_bytes()))
 }
@@ -115,23 +119,29 @@ fn run<R: Files + AllocGlobal + Threads + Wait + Sync>(
     let script = format!(in rt.alloc(); "{example}/cell.toml")?;
     let script = script.as_str();
     match action {
-        "history" => told_by(rt, &["--history", "round", script], script, true),
+        "history" => told_by(rt, &["--history", "round", script], script, PRINTED, true),
         // The order of the other lines may differ from one `run` to the next.
-        "run" => told_by(rt, &["run", script], script, false),
-        _ => told_by(rt, &[action, script], script, true),
+        "run" => told_by(rt, &["run", script], script, PRINTED, false),
+        "state" => {
+            let history = format!(in rt.alloc(); "{example}/{SO_FAR}")?;
+            let history = history.as_str();
+            told_by(rt, &["state", script, history], script, history, true)
+        }
+        _ => told_by(rt, &[action, script], script, PRINTED, true),
     }
 }
 
-/// The status of these words and what they print: all lines, or of those on the standard output only the fates of the
-/// tasks.
+/// The status of these words, with the history in the file of that name, and what they print: all lines, or of those on
+/// the standard output only the fates of the tasks.
 fn told_by<R: Files + AllocGlobal + Threads + Wait + Sync>(
     rt: &R,
     words: &[&str],
     script: &str,
+    history: &str,
     all: bool,
 ) -> anyhow::Result<Vec<u8>> {
     let alloc = rt.alloc();
-    let mut shelf = FileShelf::with_history(rt, script, PRINTED);
+    let mut shelf = FileShelf::with_history(rt, script, history);
     let mut out = MemorySink::new(alloc, ROOM, Vec::new(alloc))
         .ok()
         .context("memory")?;

@@ -1,0 +1,5 @@
+MODULE M
+PROC main()
+WaitDI di1, 1;
+ENDPROC
+ENDMODULE

@@ -1,0 +1,5 @@
+MODULE M
+PROC main()
+MoveAbsJ [[1,0,0,0,0,0],[9E9,9E9,9E9,9E9,9E9,9E9]]\NoEOffs, v5000, fine, tool0;
+ENDPROC
+ENDMODULE

@@ -1,0 +1,9 @@
+MODULE M
+CONST tasks all{3} := [["A"],["B"],["C"]];
+VAR syncident s;
+VAR num n;
+PROC main()
+WaitSyncTask s, all;
+WaitSyncTask s, all;
+ENDPROC
+ENDMODULE

@@ -1,0 +1,6 @@
+MODULE M
+PROC main()
+WaitDI di1, 1;
+WaitDI di1, 0;
+ENDPROC
+ENDMODULE

@@ -1,0 +1,14 @@
+MODULE M
+VAR intnum i;
+VAR intnum j;
+VAR intnum k;
+TRAP t
+ENDTRAP
+PROC main()
+CONNECT i WITH t;
+CONNECT j WITH t;
+CONNECT k WITH t;
+IDelete j;
+CONNECT j WITH t;
+ENDPROC
+ENDMODULE

@@ -1,0 +1,3 @@
+MODULE More
+PERS string word;
+ENDMODULE

@@ -1,0 +1,5 @@
+MODULE Watch
+PERS num COUNT;
+PROC main()
+ENDPROC
+ENDMODULE
