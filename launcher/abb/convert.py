@@ -18,7 +18,8 @@ from .report import CHANGED, LEFT_OUT, NOT_KEPT, TO_DECIDE, Report
 from .routines import routine
 from .signal_rules import values_of_passed, write_supplied
 from .tokens import decoded
-from .tree import Alias, Data, Number, Placeholder, Raise, Record, Routine
+from .tree import Number, Placeholder, Raise
+from .tree_items import Alias, Data, Record, Routine
 from .walking import nodes_in
 
 GENERATED = "from_abb.sys"

@@ -9,7 +9,8 @@ from .paths import sizes_of
 from .reading import POSITIONS
 from .rendering import Lost, Rendering, inner
 from .report import NOT_KEPT, TO_DECIDE
-from .tree import Aggregate, Data
+from .tree import Aggregate
+from .tree_items import Data
 
 Change = Tuple[int, int, str]
 # The most elements of an array in a cell.

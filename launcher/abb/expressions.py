@@ -8,7 +8,8 @@ from .paths import leaves_of, path_of, spelled
 from .reading import CALLS, POSITIONS
 from .rendering import EXPRESSIONS, Rendering, grouped, inner
 from .report import CHANGED, TO_DECIDE
-from .tree import Aggregate, Argument, Binary, Call, Component, Expression, Group, Name, Number, Placeholder, Routine, Text, Unary
+from .tree import Aggregate, Argument, Binary, Call, Component, Expression, Group, Name, Number, Placeholder, Text, Unary
+from .tree_items import Routine
 
 # The greatest num, and the most bytes of a literal.
 GREATEST = 9_999_999_999.999

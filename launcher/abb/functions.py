@@ -7,7 +7,8 @@ from .job import plain
 from .paths import sizes_of
 from .rendering import Rendering, inner
 from .report import TO_DECIDE
-from .tree import Call, Name, Parameter
+from .tree import Call, Name
+from .tree_items import Parameter
 
 # The functions of the library, by their names in small letters.
 LIBRARY: Dict[str, str] = {

@@ -4,7 +4,8 @@ from typing import Dict, Set, Tuple
 from .expressions import options_of, values_of
 from .job import Job
 from .names import Text
-from .tree import Argument, Call, Instruct, Name, Node, Routine
+from .tree import Argument, Call, Instruct, Name, Node
+from .tree_items import Routine
 from .tree import Text as Literal
 from .walking import nodes_in
 

@@ -6,7 +6,8 @@ from .expressions import options_of, render_as, values_of
 from .left_out import LEFT_OUT, TOLD
 from .rendering import Rendering
 from .report import TO_DECIDE
-from .tree import Expression, Instruct, Name, Routine
+from .tree import Expression, Instruct, Name
+from .tree_items import Routine
 
 # What an instruction becomes: its text, or None where it is left out.
 InstructionRule = Callable[[Rendering, Instruct], Optional[str]]

@@ -10,7 +10,7 @@ from .model import Added, Backup, Signal, Task
 from .names import Names, Text
 from .reading import Reading
 from .report import GUESSED, Report
-from .tree import Routine
+from .tree_items import Routine
 
 LONGEST = 32
 WORD = re.compile(r"[^\W\d]\w*")

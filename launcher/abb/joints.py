@@ -12,7 +12,8 @@ from .reading import Context
 from .report import GUESSED, MISSING, TO_DECIDE, Report
 from .rows import START, Row, read_table, table_text
 from .starts import first_target
-from .tree import Aggregate, Assign, Call, Component, Data, Expression, Instruct, Module, Name, Parameter
+from .tree import Aggregate, Assign, Call, Component, Expression, Instruct, Name
+from .tree_items import Data, Module, Parameter
 from .uses import COMPUTED, NO_PAIR, Pair, Uses
 
 # The functions of the controller that compute a position, by their names in small letters.

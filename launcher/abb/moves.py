@@ -7,7 +7,8 @@ from .rendering import Rendering, inner
 from .report import TO_DECIDE
 from .signal_rules import group_setter, output
 from .together import before_move
-from .tree import Expression, Instruct, Name, Parameter
+from .tree import Expression, Instruct, Name
+from .tree_items import Parameter
 
 
 class Form(NamedTuple):

@@ -7,7 +7,8 @@ from .job import Job
 from .model import Signal, bit_name
 from .rendering import Rendering, grouped, inner
 from .report import TO_DECIDE
-from .tree import Call, Expression, Instruct, Name, Parameter
+from .tree import Call, Expression, Instruct, Name
+from .tree_items import Parameter
 from . import types
 
 GROUPS = ("GI", "GO")
