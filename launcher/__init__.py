@@ -81,6 +81,8 @@ The code of tasks:
     listing         `list --source CELL`
     lint            `lint CELL`; lint_data, lint_traps, lint_flow and lint_meetings have the checks, lint_places and lint_locks what
                     these look at
+A backup of a controller:
+    abb             `import BACKUP OUT`: a package of its own, which lists its files
 The language server:
     lsp             the server; lsp_wire, lsp_text, lsp_files, lsp_checker, lsp_diagnostics, lsp_hover, lsp_definition, lsp_completion
     symbols         what a name of a cell means

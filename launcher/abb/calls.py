@@ -6,7 +6,8 @@ from .expressions import parts_of, render_as
 from .job import plain
 from .parameters import SWITCH, Slot, given_name, has_lost_array, slots_of
 from .rendering import inner
-from .tree import Argument, Call, Expression, Instruct, Name, Parameter, Routine
+from .tree import Argument, Call, Expression, Instruct, Name
+from .tree_items import Parameter, Routine
 
 if TYPE_CHECKING:
     from .rendering import Rendering

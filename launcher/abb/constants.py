@@ -3,7 +3,8 @@ import operator
 from typing import TYPE_CHECKING, Callable, Dict, List, Optional
 
 from .reading import Value
-from .tree import Aggregate, Binary, Component, Data, Expression, Group, Index, Name, Number, Text, Truth, Unary
+from .tree import Aggregate, Binary, Component, Expression, Group, Index, Name, Number, Text, Truth, Unary
+from .tree_items import Data
 
 if TYPE_CHECKING:
     from .rendering import Rendering

@@ -4,7 +4,7 @@ from typing import List, Optional, Set, Tuple
 from . import rules
 from .declarations import declared
 from .flow import ends
-from .guess import guess_signals, use_generated
+from .guess import guess_signals, take_aliases, use_generated
 from .job import Job
 from .library import MODULE, Library
 from .model import Backup, Converted, Module, NotRead, Task
@@ -16,9 +16,10 @@ from .reading import Reading
 from .rendering import Rendering
 from .report import CHANGED, LEFT_OUT, NOT_KEPT, TO_DECIDE, Report
 from .routines import routine
-from .signal_rules import values_of_passed, write_helpers
+from .signal_rules import values_of_passed, write_supplied
 from .tokens import decoded
-from .tree import Alias, Data, Number, Placeholder, Raise, Record, Routine
+from .tree import Number, Placeholder, Raise
+from .tree_items import Alias, Data, Record, Routine
 from .walking import nodes_in
 
 GENERATED = "from_abb.sys"
@@ -56,6 +57,7 @@ def convert(backup: Backup, task: Task, texts: List[Text], others: Set[str], rea
     declared_names = [*names.shared, *(it for text in texts for it in text.own)]
     job = Job(backup, task, names, reading, report, Library(task, declared_names), others=others)
     job.raised = raised_numbers(texts)
+    take_aliases(job)
     guess_signals(job)
     repeat_main(job)
     renderings = [Rendering(job, text) for text in texts]
@@ -105,8 +107,8 @@ def items(at: Rendering) -> None:
 def finish(job: Job, renderings: List[Rendering]) -> None:
     """What the generated module gets when all modules are known."""
     at = renderings[0] if renderings else None
-    if at and job.helpers:
-        write_helpers(job, values_of_passed(at))
+    if at and job.supplied:
+        write_supplied(job, values_of_passed(at))
     if job.fires:
         cases = [f"  CASE {n + 1}:\n    {it}" for n, it in enumerate(job.triggers)]
         job.library.add("abb_trigger", "\n".join(["! What a trigger does.", "PROC abb_trigger(num trigger)", "  TEST trigger", *cases, "  ENDTEST", "ENDPROC"]))

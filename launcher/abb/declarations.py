@@ -9,9 +9,12 @@ from .paths import sizes_of
 from .reading import POSITIONS
 from .rendering import Lost, Rendering, inner
 from .report import NOT_KEPT, TO_DECIDE
-from .tree import Aggregate, Data
+from .tree import Aggregate
+from .tree_items import Data
 
 Change = Tuple[int, int, str]
+# The most elements of an array in a cell.
+LONGEST = 1000
 
 
 def declared(at: Rendering, it: Data) -> None:
@@ -47,22 +50,38 @@ def of_value(at: Rendering, it: Data, base: str) -> str:
     kind = types.renamed(base)
     changes.append((it.type_at, it.type_at + len(it.type), it.type if kind == it.type.lower() else kind))
     changes.append((it.name_at, it.name_end, plain(it.name)))
+    is_long = tell_long(at, it)
     if it.sizes:
         changes.append((it.name_end, at.text.characters.index("}", it.sizes[-1].end) + 1, length_text(at, it)))
-    if it.value is not None:
+    if it.value is not None and is_long:
+        changes.append((at.text.characters.rindex(":=", it.start, it.value.start), it.value.end, ""))
+    elif it.value is not None:
         changes.append((it.value.start, it.value.end, value_text(at, it, base)))
     return at.put_in(it, changes).lstrip()
 
 
-def length_text(at: Rendering, it: Data) -> str:
-    if len(it.sizes) == 1:
-        return at.text.characters[it.name_end : it.sizes[0].start] + at.render(it.sizes[0]) + "}"
+def tell_long(at: Rendering, it: Data) -> bool:
+    """Whether an array is longer than one can be here; then it is cut, and has no value."""
+    count = count_of(at, it)
+    if count > LONGEST:
+        at.note(NOT_KEPT, it, f"{it.name} has {count} elements; an array here has at most {LONGEST}, and an index above ends the task")
+    return count > LONGEST
+
+
+def count_of(at: Rendering, it: Data) -> int:
     count = 1
     for size in sizes_of(at, it):
         count *= size
+    return count
+
+
+def length_text(at: Rendering, it: Data) -> str:
+    if len(it.sizes) == 1 and count_of(at, it) <= LONGEST:
+        return at.text.characters[it.name_end : it.sizes[0].start] + at.render(it.sizes[0]) + "}"
+    count = count_of(at, it)
     if not count:
         at.lost(it, "lengths that are not known")
-    return f"{{{count}}}"
+    return f"{{{min(count, LONGEST)}}}"
 
 
 def value_text(at: Rendering, it: Data, base: str) -> str:

@@ -2,7 +2,7 @@
 from typing import Optional
 
 from ..manual import entries
-from .expressions import DATA
+from .expressions import DATA, options_of
 from .instructions import INSTRUCTIONS, argument
 from .rendering import Rendering
 from .tree import Instruct, Name
@@ -37,6 +37,13 @@ def own(at: Rendering, node: Name) -> str:
     return at.source(node)
 
 
+def raise_to_user(at: Rendering, node: Instruct) -> str:
+    """RaiseToUser: the error goes to the caller; every routine here is a user's."""
+    found = options_of(node.arguments).get("errornumber")
+    return f"RAISE {at.render(found.value)};" if found and found.value else "RAISE;"
+
+
+INSTRUCTIONS["raisetouser"] = raise_to_user
 INSTRUCTIONS.update({"bookerrno": book_err_no, "procerrrecovery": proc_err_recovery, "errraise": err_raise})
 DATA.update({it: own for it in (*OWN, "errno")})
 DATA.update({it: numbered for it in entries() if it.startswith("err_")})

@@ -8,7 +8,8 @@ from .paths import leaves_of, path_of, spelled
 from .reading import CALLS, POSITIONS
 from .rendering import EXPRESSIONS, Rendering, grouped, inner
 from .report import CHANGED, TO_DECIDE
-from .tree import Aggregate, Argument, Binary, Call, Component, Expression, Group, Name, Number, Placeholder, Routine, Text, Unary
+from .tree import Aggregate, Argument, Binary, Call, Component, Expression, Group, Name, Number, Placeholder, Text, Unary
+from .tree_items import Routine
 
 # The greatest num, and the most bytes of a literal.
 GREATEST = 9_999_999_999.999
@@ -17,6 +18,8 @@ LONGEST_TEXT = 80
 TEXT = re.compile(r'"(?:""|\\\\|\\[2-6][0-9A-Fa-f]|\\7[0-9A-Ea-e]|[ !#-\[\]-~])*"')
 ESCAPE = re.compile(r"\\([0-9A-Fa-f]{2})")
 EQUALITIES = ("=", "<>")
+# The positions by the numbers of values in their brackets.
+SHAPES = {(3, 4, 4, 6): "robtarget", (6, 6): "jointtarget"}
 FunctionRule = Callable[[Rendering, Call], str]
 # What a function of RAPID becomes, by its name in small letters; and what a predefined datum becomes.
 FUNCTIONS: Dict[str, FunctionRule] = {}
@@ -67,9 +70,9 @@ def name(at: Rendering, node: Name) -> str:
     if path is None:
         return undeclared(at, node)
     if path.type in types.SIGNALS:
-        from .signal_rules import value_of_passed
+        from .signal_rules import value_of_parameter
 
-        return value_of_passed(at, node.name)
+        return value_of_parameter(at, node)
     if path.rest and path.type in POSITIONS:
         return at.job.reading.component(at, node, path.type, path.depth)
     if is_dropped(at, path.type):
@@ -114,10 +117,10 @@ def call(at: Rendering, node: Call) -> str:
 
         return called(at, node, meant)
     small = node.name.lower()
-    if small in CALLS:
-        return at.job.reading.call(at, node)
     rule = FUNCTIONS.get(small)
-    return rule(at, node) if rule else at.lost(node, f"the function {node.name} has no rule")
+    if rule:
+        return rule(at, node)
+    return at.job.reading.call(at, node) if small in CALLS else at.lost(node, f"the function {node.name} has no rule")
 
 
 def unary(at: Rendering, node: Unary) -> str:
@@ -178,6 +181,17 @@ def operated(at: Rendering, node: Expression, kind: str) -> List[str]:
     return [f"({grouped(a)}{node.sign}{grouped(b)})" for a, b in zip(*sides)]
 
 
+def brackets(at: Rendering, node: Aggregate) -> str:
+    """Brackets at a place that does not tell their type: a position, by its shape, or a record of nums."""
+    shape = [len(it.parts) if isinstance(it, Aggregate) else 0 for it in (inner(part) for part in node.parts)]
+    kind = SHAPES.get(tuple(shape))
+    if kind:
+        return at.job.reading.aggregate(at, node, kind)
+    if any(shape):
+        at.lost(node, "brackets whose type is not known")
+    return at.spliced(node, node.parts)
+
+
 def placeholder(at: Rendering, node: Placeholder) -> str:
     return at.lost(node, f"the placeholder {node.text}")
 
@@ -200,7 +214,7 @@ EXPRESSIONS.update(
         Call: call,
         Unary: unary,
         Binary: binary,
-        Aggregate: lambda at, node: at.lost(node, "brackets whose type is not known"),
+        Aggregate: brackets,
         Group: lambda at, node: at.spliced(node, [node.inner]),
         Placeholder: placeholder,
     }

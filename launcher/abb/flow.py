@@ -2,7 +2,8 @@
 from typing import Dict, Set
 
 from .names import Names, Text
-from .tree import Call, Goto, Instruct, Label, Node, Plain, Routine, Truth, While
+from .tree import Call, Goto, Instruct, Label, Node, Plain, Truth, While
+from .tree_items import Routine
 from .walking import nodes_in
 
 # What the names of instructions that move an arm begin with.

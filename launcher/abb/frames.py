@@ -5,7 +5,8 @@ from . import place_texts as texts
 from .geometry import Frame, Vector, angles_of, composed, inverse, is_identity, matrix_of, of_angles, product, shown
 from .literals import frame_parts
 from .reading import Context, Value
-from .tree import Data, Expression, Name, Node, Parameter
+from .tree import Expression, Name, Node
+from .tree_items import Data, Parameter
 
 
 class Frames:

@@ -2,11 +2,13 @@
 from typing import Callable, Dict
 
 from .calls import present
-from .expressions import DATA, FUNCTIONS, options_of, quoted, values_of
+from .expressions import DATA, FUNCTIONS, options_of, parts_of, quoted, values_of
 from .job import plain
 from .paths import sizes_of
 from .rendering import Rendering, inner
-from .tree import Call, Name, Parameter
+from .report import TO_DECIDE
+from .tree import Call, Name
+from .tree_items import Parameter
 
 # The functions of the library, by their names in small letters.
 LIBRARY: Dict[str, str] = {
@@ -49,7 +51,10 @@ def val_to_str(at: Rendering, node: Call) -> str:
         return at.render(value)
     if kind == "bool":
         return f"{at.need('abb_BoolToStr')}({at.render(value)})"
-    return f"{at.need('abb_ValToStr')}({at.render(value)})" if kind in ("num", "dnum", "errnum", "byte") else at.lost(node, f"ValToStr of a {kind}")
+    if kind in ("num", "dnum", "errnum", "byte"):
+        return f"{at.need('abb_ValToStr')}({at.render(value)})"
+    parts = '+","+'.join(f"{at.need('abb_ValToStr')}({it})" for it in parts_of(at, value, kind))
+    return f'("["+{parts}+"]")' if kind in ("pos", "orient") else at.lost(node, f"ValToStr of a {kind}")
 
 
 def dim(at: Rendering, node: Call) -> str:
@@ -72,6 +77,30 @@ def constant_text(at: Rendering, node: Call) -> str:
         start = int(values[1]) - 1
         return quoted(values[0][start : start + int(values[2])])
     return at.lost(node, f"{node.name} reads a text, which a module of a cell cannot")
+
+
+def dot_prod(at: Rendering, node: Call) -> str:
+    """DotProd of two pos."""
+    left, right = (parts_of(at, it, "pos") for it in values_of(node.arguments)[:2])
+    return "(" + "+".join(f"({a})*({b})" for a, b in zip(left, right)) + ")"
+
+
+def vect_magn(at: Rendering, node: Call) -> str:
+    """VectMagn of a pos."""
+    parts = parts_of(at, values_of(node.arguments)[0], "pos")
+    return f"{at.need('abb_Sqrt')}({'+'.join(f'({it})*({it})' for it in parts)})"
+
+
+def read_text(at: Rendering, node: Call) -> str:
+    """ReadStr, ReadStrBin: the next of the texts that the script gives."""
+    at.note(TO_DECIDE, node, f"{at.source(node)}: the script gives what is read, in texts_{at.job.task.short}")
+    return f"{at.need('abb_text')}({quoted(node.name)})"
+
+
+def read_number(at: Rendering, node: Call) -> str:
+    """ReadNum, ReadBin: the next of the answers that the script gives."""
+    at.note(TO_DECIDE, node, f"{at.source(node)}: the script gives what is read, in answers_{at.job.task.short}")
+    return f"{at.need('abb_answer')}({quoted(node.name)})"
 
 
 def state(text: str) -> Callable[[Rendering, Call], str]:
@@ -115,7 +144,13 @@ FUNCTIONS.update({it: constant_text for it in ("strpart", "strfind", "strmatch",
 FUNCTIONS.update({"opmode": state("1"), "runmode": state("1"), "robos": state("TRUE"), "isstopmoveact": state("FALSE"), "taskrunrob": state("TRUE")})
 FUNCTIONS.update({"nonmotionmode": state("FALSE"), "taskrunmec": state("TRUE"), "cspeedoverride": state("100"), "pfrestart": state("FALSE")})
 FUNCTIONS.update({"ismechunitactive": state("TRUE"), "execlevel": state("0"), "exechandler": state("0"), "eventtype": state("0")})
+FUNCTIONS.update({it: state("TRUE") for it in ("taskisactive", "taskisexecuting", "modexist")})
+FUNCTIONS.update({it: state("FALSE") for it in ("isstopstateevent", "ppmovedinmanmode", "isfile", "isleadthrough", "isbrakecheckactive")})
+FUNCTIONS.update({"gettime": state("0"), "iounitstate": state("1"), "pathlevel": state("1"), "remainingretries": state("4"), "maxrobspeed": state("5000")})
+FUNCTIONS.update({"getsysinfo": state('""'), "getuasusername": state('""'), "dotprod": dot_prod, "vectmagn": vect_magn})
+FUNCTIONS.update({"readstr": read_text, "readstrbin": read_text, "readnum": read_number, "readbin": read_number})
 DATA.update({it: predefined for it in KEPT_DATA})
 DATA.update({name: number(str(it)) for name, it in NUMBERS.items()})
+DATA.update({it: number('"%s:"' % it[4:].upper()) for it in ("diskhome", "diskram", "disktemp")})
 DATA["stempty"] = number('""')
 DATA["pi"] = number("3.142")

@@ -4,7 +4,9 @@ from typing import Dict, Set, Tuple
 from .expressions import options_of, values_of
 from .job import Job
 from .names import Text
-from .tree import Argument, Call, Instruct, Name, Node, Routine
+from .tree import Argument, Call, Instruct, Name, Node
+from .tree_items import Routine
+from .tree import Text as Literal
 from .walking import nodes_in
 
 # Which argument of an instruction or a function is a signal, and of which type.
@@ -20,6 +22,18 @@ USES: Dict[str, Tuple[int, str]] = {
     "movecdo": (5, "DO"),
 }
 OPTIONS = {"dop": "DO", "gop": "GO", "aop": "AO"}
+
+
+def take_aliases(job: Job) -> None:
+    """The names that AliasIO gives to signals, where each has one signal in the whole task."""
+    found: Dict[str, Set[str]] = {}
+    for node in job.names.instructions():
+        if node.name.lower() == "aliasio":
+            values = values_of(node.arguments)
+            if len(values) == 2 and isinstance(values[1], Name) and isinstance(values[0], (Name, Literal)):
+                signal = values[0].name if isinstance(values[0], Name) else values[0].value
+                found.setdefault(values[1].name.lower(), set()).add(signal.lower())
+    job.aliases = {alias: next(iter(signals)) for alias, signals in found.items() if len(signals) == 1}
 
 
 def guess_signals(job: Job) -> None:
@@ -53,8 +67,9 @@ def guess_name(job: Job, text: Text, node: Node, kind: str, own: Set[str]) -> No
     if not isinstance(node, Name) or node.parts:
         return
     small = node.name.lower()
+    small = job.aliases.get(small, small)
     if small not in own and small not in job.backup.signals and job.names.item(text, node.name) is None:
-        job.guess(text, text.line_of(node.start), node.name, kind)
+        job.guess(text, text.line_of(node.start), small if small in job.aliases.values() else node.name, kind)
 
 
 def use_generated(job: Job, text: Text) -> None:

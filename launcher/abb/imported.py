@@ -65,7 +65,10 @@ def import_backup(wanted: Wanted) -> Imported:
 
 
 def reading_of(wanted: Wanted, backup: Backup, report: Report) -> Reading:
-    return Joints(backup, wanted.joints, report) if wanted.joints else Places(backup, wanted.places, report)
+    """The reading that the words ask for. A table of joints that is not there yet is one without rows: the import writes it."""
+    if wanted.joints:
+        return Joints(backup, wanted.joints if wanted.joints.exists() else None, report)
+    return Places(backup, wanted.places, report)
 
 
 def first_lines(wanted: Wanted, reading: Reading, tasks: List[Converted]) -> List[str]:

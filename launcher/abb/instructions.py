@@ -6,7 +6,8 @@ from .expressions import options_of, render_as, values_of
 from .left_out import LEFT_OUT, TOLD
 from .rendering import Rendering
 from .report import TO_DECIDE
-from .tree import Expression, Instruct, Name, Routine
+from .tree import Expression, Instruct, Name
+from .tree_items import Routine
 
 # What an instruction becomes: its text, or None where it is left out.
 InstructionRule = Callable[[Rendering, Instruct], Optional[str]]
@@ -24,7 +25,7 @@ def instructed(at: Rendering, node: Instruct) -> Optional[str]:
         return called(at, node, meant)
     small = node.name.lower()
     if small in TOLD:
-        at.note(TO_DECIDE, node, f"{at.source(node)} is left out: moves go where they are programmed")
+        at.note(TO_DECIDE, node, f"{at.source(node)} is left out, with what it does to moves or interrupts")
     if small in LEFT_OUT:
         return None
     rule = INSTRUCTIONS.get(small)

@@ -1,9 +1,9 @@
 """Interrupts: orders that a cell has too, timers as inputs, and IDelete of what is not connected."""
-from .expressions import options_of
+from .expressions import options_of, values_of
 from .instructions import INSTRUCTIONS, argument, kept, named
 from .rendering import Rendering, inner
 from .report import TO_DECIDE
-from .signal_rules import passed_name
+from .signal_rules import ANALOG, analog, passed_name
 from .tree import Instruct, Name
 
 EDGE = "edge"
@@ -34,6 +34,16 @@ def i_signal(at: Rendering, node: Instruct) -> str:
     return f"{wanted} {single(at, node)}{signal.name},{at.render(value)},{at.render(argument(at, node, 2))};".replace(" \\", "\\")
 
 
+def i_analog(at: Rendering, node: Instruct) -> str:
+    """ISignalAI, ISignalAO: an order on each change of the persistent that stands for the signal."""
+    name, interrupt = named(at, node, 0), values_of(node.arguments)[-1]
+    signal = at.job.signal(name.name)
+    if signal is None or signal.kind not in ANALOG:
+        return at.lost(node, f"{name.name} is no analog signal that is known")
+    at.note(TO_DECIDE, node, f"{at.source(node)}: here the interrupt comes at each change of {signal.name}")
+    return f"IPers{single(at, node) or ' '}{analog(at, signal)},{at.render(interrupt)};"
+
+
 def i_timer(at: Rendering, node: Instruct) -> str:
     """A timer is an input of the script."""
     interrupt = argument(at, node, 1)
@@ -62,5 +72,5 @@ def values(at: Rendering, node: Instruct) -> str:
     return kept(at, node)
 
 
-INSTRUCTIONS.update({"isignaldi": i_signal, "isignaldo": i_signal, "itimer": i_timer, "ipers": i_pers, "idelete": i_delete})
+INSTRUCTIONS.update({"isignaldi": i_signal, "isignaldo": i_signal, "itimer": i_timer, "ipers": i_pers, "idelete": i_delete, "isignalai": i_analog, "isignalao": i_analog})
 INSTRUCTIONS.update({it: values for it in ("isleep", "iwatch", "idisable", "ienable")})

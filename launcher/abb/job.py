@@ -10,7 +10,7 @@ from .model import Added, Backup, Signal, Task
 from .names import Names, Text
 from .reading import Reading
 from .report import GUESSED, Report
-from .tree import Routine
+from .tree_items import Routine
 
 LONGEST = 32
 WORD = re.compile(r"[^\W\d]\w*")
@@ -51,8 +51,10 @@ class Job:
     # What other tasks write, in small letters; whether a loop of the task only looks.
     others: Set[str] = field(default_factory=set)
     is_polling: bool = False
+    # The signals that AliasIO gives another name, by that name, in small letters.
+    aliases: Dict[str, str] = field(default_factory=dict)
     # What is done with signals by their numbers.
-    helpers: Set[str] = field(default_factory=set)
+    supplied: Set[str] = field(default_factory=set)
     # Declared error numbers that BookErrNo gave.
     booked: Dict[str, int] = field(default_factory=dict)
     once: Set[str] = field(default_factory=set)
@@ -67,9 +69,10 @@ class Job:
 
     def signal(self, name: str) -> Optional[Signal]:
         """The signal of a name, which the cell then has."""
-        found = self.backup.signals.get(name.lower())
+        small = self.aliases.get(name.lower(), name.lower())
+        found = self.backup.signals.get(small)
         if found:
-            self.used.add(name.lower())
+            self.used.add(small)
         return found
 
     def guess(self, text: Text, line: int, name: str, kind: str) -> Signal:

@@ -12,7 +12,8 @@ from .reading import Context
 from .report import GUESSED, MISSING, TO_DECIDE, Report
 from .rows import START, Row, read_table, table_text
 from .starts import first_target
-from .tree import Aggregate, Assign, Call, Component, Data, Expression, Instruct, Module, Name, Parameter
+from .tree import Aggregate, Assign, Call, Component, Expression, Instruct, Name
+from .tree_items import Data, Module, Parameter
 from .uses import COMPUTED, NO_PAIR, Pair, Uses
 
 # The functions of the controller that compute a position, by their names in small letters.
@@ -222,16 +223,13 @@ class Joints:
         options = {it.option.lower(): it.value for it in node.arguments if it.option}
         if small in ("crobt", "cjointt") and "taskref" not in options and "taskname" not in options:
             return "CJointT()"
-        if small == "calcrobt" and values:
-            return at.render(values[0])
-        if small == "calcjointt" and values:
-            return self.target(at, values[0], "robtarget", values[1] if values[1:] else None, options.get("wobj"))
+        tool = values[1] if values[1:] else None
+        if small in ("calcrobt", "calcjointt") and values:
+            return at.render(values[0]) if small == "calcrobt" else self.target(at, values[0], "robtarget", tool, options.get("wobj"))
         return at.lost(node, f"{node.name} of a position that is in joints")
 
     def work_object(self, at: Context, node: Optional[Expression]) -> str:
         return "0"
-
-    # Starts and files
 
     def start(self, task: Task) -> List[int]:
         """Where the arm of a task starts, in thousandths: by its row, or at the first position that it moves to."""
@@ -244,19 +242,17 @@ class Joints:
             given = self.rows.get(Row(task.name, f"{found.module}.{found.name}", pair.tool, pair.wobj, ()).pair)
         joints = jointtarget(found.value) if found else None
         axes: List[Optional[float]] = [*joints[0], *joints[1]] if joints else list(given.values) if given and given.is_filled else []
-        told = f"at {found.name}, the first position that it moves to" if found and axes else "at noughts"
         if not given or found:
-            self.report.add(GUESSED, task.name, "", 0, f"the arm starts {told}")
+            where = f"{found.name}, the first position that it moves to" if found and axes else "noughts"
+            self.report.add(GUESSED, task.name, "", 0, f"the arm starts at {where}")
         return [0 if it is None or it >= NONE_ABOVE else round(it * 1000) for it in axes] or [0] * 12
 
     def files(self) -> Dict[str, bytes]:
         """The table with all rows that it needs, and for each task the module that fills them in on a controller."""
-        for it in self.rows.values():
-            if it.pair not in self.used and self.table:
-                self.report.add(TO_DECIDE, it.task, self.table.name, it.line, f"{it.position} with {it.tool} and {it.wobj} is not needed")
+        name = self.table.name if self.table else ""
+        for it in [row for row in self.rows.values() if name and row.pair not in self.used]:
+            self.report.add(TO_DECIDE, it.task, name, it.line, f"{it.position} with {it.tool} and {it.wobj} is not needed")
         found = {"joints.csv": table_text(list(self.used.values()))}
-        for task, wanted in self.wanted.items():
-            if wanted:
-                found[f"log_joints_{task}.sys"] = log_module(task, wanted)
+        found.update({f"log_joints_{task}.sys": log_module(task, wanted) for task, wanted in self.wanted.items() if wanted})
         return found
 

@@ -7,7 +7,8 @@ from .expressions import quoted
 from .instructions import INSTRUCTIONS, argument
 from .job import plain
 from .rendering import Rendering, inner
-from .tree import Aggregate, Argument, Assign, Binary, Call, Data, Expression, Instruct, Name, Routine, Text
+from .tree import Aggregate, Argument, Assign, Binary, Call, Expression, Instruct, Name, Text
+from .tree_items import Data, Routine
 from .walking import nodes_in
 
 

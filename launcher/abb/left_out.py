@@ -21,7 +21,7 @@ LEFT_OUT = frozenset(
     sigetcyclic sisetcyclic
     errlog tpshow uishow resetretrycount skipwarn readerrdata gettrapdata setsysdata systemstopaction resetppmoved
     ioenable iodisable iobusstart iobusstate aliascamera
-    spystart spystop testsigndefine testsignreset pathlengthreset pathlengthstart pathlengthstop triggspeed triggstopproc triggcheckio
+    spystart spystop testsigndefine testsignreset pathlengthreset pathlengthstart pathlengthstop triggspeed triggstopproc
     triggdatareset
     arcrefresh arckill caprefresh capsetstopmode capcondsetdo capaptrsetup caplatrsetup setforce stcalib sttune sttunereset stindgun
     stindgunreset indgunmove indgunmovereset recalctcp
@@ -29,8 +29,14 @@ LEFT_OUT = frozenset(
     camsetprogrammode camsetrunmode camflush camloadjob camstartloadjob camwaitloadjob camreqimage camsetexposure camsetparameter
     texttabinstall setupcyclicbool removecyclicbool removeallcyclicbool savecfgdata writecfgdata readcfgdata
     load unload startload waitload cancelload save erasemodule checkprogref
-    safetycontrollersyncrequest mpspeedlim eoffson eoffsoff eoffsset pdispon pdispoff pdispset
+    fcact fcdeact fccalib fccondforce fccondpos fccondwaitwhile fcrefcircle fcrefforce fcrefline fcrefmoveframe fcrefrot fcrefspiral fcrefstart
+    fcrefstop fcspdchgact fcspdchgdeact fcsupvforce fcsupvpos
+    stopen stclose initsuperv setupsuperv removesuperv capaptrsetupai capaptrsetupao capaptrsetuppers capequidist capnoprocess capweavesync
+    prxactivandstorerecord prxactivrecord prxdbgstorerecord prxdeactrecord prxresetpos prxresetrecords prxsetposoffset
+    prxsetrecordsampletime prxsetsyncalarm prxstartrecord prxstoprecord prxstorerecord prxuserecord prxusefilerecord
+    ierror ipathpos irmqmessage aliasioreset
+    safetycontrollersyncrequest eoffson eoffsoff eoffsset pdispon pdispoff pdispset
     """.split()
 )
 # Those that change what the moves after them mean: they are told under what is to be decided.
-TOLD = frozenset("pdispset pdispon pdispoff eoffsset eoffson eoffsoff softact".split())
+TOLD = frozenset("pdispset pdispon pdispoff eoffsset eoffson eoffsoff softact ierror ipathpos irmqmessage fcact stclose stopen".split())

@@ -7,7 +7,7 @@ from typing import Dict, List
 
 from .model import Task
 from .parser import parse_text
-from .tree import Data, Routine
+from .tree_items import Data, Routine
 
 FILE = Path(__file__).parent / "from_abb.sys"
 MODULE = "from_abb"

@@ -1,7 +1,8 @@
 """What the modules of a task declare, looked at before the conversion: values of constant expressions, robtargets, and routines."""
 from typing import Dict, Iterator, List, Optional, Sequence, Tuple, Union
 
-from .tree import Aggregate, Binary, Data, Expression, Group, Module, Name, Number, Routine, Text, Truth, Unary
+from .tree import Aggregate, Binary, Expression, Group, Name, Number, Text, Truth, Unary
+from .tree_items import Data, Module, Routine
 from .walking import nodes_in
 
 Value = Union[float, str, bool, List["Value"]]

@@ -2,7 +2,8 @@
 from typing import TYPE_CHECKING, Optional
 
 from .rendering import Lost
-from .tree import Call, Goto, Instruct, Label, Routine, While
+from .tree import Call, Goto, Instruct, Label, While
+from .tree_items import Routine
 from .walking import nodes_in
 
 if TYPE_CHECKING:

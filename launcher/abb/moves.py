@@ -1,13 +1,14 @@
 """Moves: each becomes a MoveAbsJ, which ends exactly at its target."""
 from typing import Dict, List, NamedTuple, Optional
 
-from .expressions import options_of, render_as
+from .expressions import options_of, render_as, values_of
 from .instructions import INSTRUCTIONS, argument
 from .rendering import Rendering, inner
 from .report import TO_DECIDE
 from .signal_rules import group_setter, output
 from .together import before_move
-from .tree import Expression, Instruct, Name, Parameter
+from .tree import Expression, Instruct, Name
+from .tree_items import Parameter
 
 
 class Form(NamedTuple):
@@ -21,6 +22,8 @@ class Form(NamedTuple):
     after: str = ""
 
 
+# The tool is the last argument.
+LAST = -2
 LINE = Form([0], 1, 3)
 CIRCLE = Form([0, 1], 2, 4)
 FORMS: Dict[str, Form] = {
@@ -50,11 +53,13 @@ FORMS: Dict[str, Form] = {
     "nutl": Form([0], 1, 4),
     "calibl": LINE,
     "calibj": LINE,
+    **{f"fcpress{it}": Form([0], 1, LAST) for it in ("1lstart", "l", "end")},
+    "fcpressc": Form([0, 1], 2, LAST),
     "capl": Form([0], 1, 5),
     "capc": Form([0, 1], 2, 6),
 }
 # Those of a process of which a cell has nothing.
-PROCESS = ("arc", "spot", "disp", "paint", "nut", "calib", "cap")
+PROCESS = ("arc", "spot", "disp", "paint", "nut", "calib", "cap", "fcpress")
 
 
 def move(at: Rendering, node: Instruct) -> str:
@@ -75,7 +80,8 @@ def moves_to(at: Rendering, node: Instruct, targets: List[Expression], speed_at:
 
 
 def target_text(at: Rendering, node: Instruct, target: Expression, tool_at: int, kind: str) -> str:
-    tool = argument(at, node, tool_at) if tool_at >= 0 else None
+    values = values_of(node.arguments)
+    tool = values[-1] if tool_at == LAST and values else argument(at, node, tool_at) if tool_at >= 0 else None
     wobj = options_of(node.arguments).get("wobj")
     if wobj is not None and wobj.given:
         frame: Optional[Expression] = Name(wobj.start, wobj.end, wobj.given)

@@ -5,7 +5,8 @@ from dataclasses import dataclass, field
 from typing import Dict, List, Optional, Set, Tuple, Union
 
 from . import types
-from .tree import Alias, Data, Instruct, Module, Name, Parameter, Record, Routine
+from .tree import Instruct, Name
+from .tree_items import Alias, Data, Module, Parameter, Record, Routine
 from .walking import nodes_in
 
 # How deep records are in one another, in a program that is one.

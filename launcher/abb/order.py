@@ -2,7 +2,8 @@
 from typing import Dict, List, Set
 
 from .rendering import Rendering
-from .tree import Data, Name
+from .tree import Name
+from .tree_items import Data
 from .walking import nodes_in
 
 

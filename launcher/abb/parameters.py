@@ -5,7 +5,8 @@ from typing import TYPE_CHECKING, List
 from . import types
 from .expressions import is_dropped
 from .job import plain
-from .tree import Name, Parameter, Routine
+from .tree import Name
+from .tree_items import Parameter, Routine
 from .walking import nodes_in
 
 if TYPE_CHECKING:

@@ -3,7 +3,8 @@ from typing import List, Optional
 
 from .parse_statements import Statements
 from .tokens import END, HOLE, NAME, Tokens, decoded
-from .tree import Alias, Data, Expression, Field, Handler, Item, Module, Parameter, Placeholder, Record, Routine
+from .tree import Expression, Placeholder
+from .tree_items import Alias, Data, Field, Handler, Item, Module, Parameter, Record, Routine
 
 KINDS = ("VAR", "PERS", "CONST")
 PASSED = ("VAR", "PERS", "INOUT")

@@ -5,7 +5,8 @@ from typing import TYPE_CHECKING, List, Optional, Tuple, Union
 from . import types
 from .constants import as_index, component_type
 from .job import plain
-from .tree import Component, Data, Expression, Index, Name, Parameter
+from .tree import Component, Expression, Index, Name
+from .tree_items import Data, Parameter
 
 if TYPE_CHECKING:
     from .rendering import Rendering

@@ -8,7 +8,8 @@ from .literals import numbers, robtarget
 from .orientations import Named
 from .reading import Context
 from .report import GUESSED
-from .tree import Aggregate, Argument, Assign, Call, Component, Data, Expression, Index, Name, Node
+from .tree import Aggregate, Argument, Assign, Call, Component, Expression, Index, Name, Node
+from .tree_items import Data
 
 AXIS = {"x": 1, "y": 2, "z": 3}
 QUATERNION = ("q1", "q2", "q3", "q4")

@@ -13,7 +13,8 @@ from .reading import Context
 from .report import GUESSED, MISSING, TO_DECIDE, Report
 from .rows import START, Row, read_table, table_text
 from .starts import first_target
-from .tree import Aggregate, Assign, Call, Data, Expression, Instruct, Module, Name, Node, Parameter
+from .tree import Aggregate, Assign, Call, Expression, Instruct, Name, Node
+from .tree_items import Data, Module, Parameter
 
 GENERATED = "from_abb"
 

@@ -6,7 +6,8 @@ from .expressions import values_of
 from .job import Job
 from .model import bit_name
 from .names import Text
-from .tree import Assign, Data, Instruct, Name, Node, Routine
+from .tree import Assign, Instruct, Name, Node
+from .tree_items import Data, Routine
 from .walking import nodes_in
 
 # The instructions that write their first argument.

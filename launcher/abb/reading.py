@@ -13,7 +13,8 @@ In the reading by joints a position is a row of joints.csv for each tool and wor
 from typing import Dict, List, NoReturn, Optional, Protocol, Sequence, Union
 
 from .model import Task
-from .tree import Aggregate, Argument, Assign, Call, Data, Expression, Instruct, Module, Name, Node, Parameter, Routine
+from .tree import Aggregate, Argument, Assign, Call, Expression, Instruct, Name, Node
+from .tree_items import Data, Module, Parameter, Routine
 
 # A value of a constant expression.
 Value = Union[float, str, bool, List["Value"]]

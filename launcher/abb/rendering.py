@@ -7,7 +7,8 @@ from .job import Job
 from .names import Meant, Text
 from .reading import Value
 from .report import CHANGED, LEFT_OUT, NOT_KEPT
-from .tree import Data, Expression, Group, Node, Parameter, Routine, While
+from .tree import Expression, Group, Node, While
+from .tree_items import Data, Parameter, Routine
 
 COMMENT = re.compile(r'"(?:[^"\r\n]|"")*"|(![^\r\n]*)')
 GAP = re.compile(r"(?:\s+|![^\n]*)*")

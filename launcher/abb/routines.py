@@ -8,7 +8,8 @@ from .parameters import has_lost_array, slots_of
 from .rendering import Lost, Rendering, fitted, flat
 from .report import CHANGED, NOT_KEPT, TO_DECIDE
 from .statements import statements
-from .tree import Handler, Node, Parameter, Routine
+from .tree import Node
+from .tree_items import Handler, Parameter, Routine
 from . import types
 
 LONG_JUMP = "long_jmp_all_err"

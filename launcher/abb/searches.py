@@ -1,6 +1,7 @@
 """Searches: the arm moves all the way, and then the input is read; the found position is the target."""
 from typing import Dict, List
 
+from .expressions import options_of
 from .instructions import INSTRUCTIONS, argument
 from .moves import speed, target_text
 from .rendering import Rendering, grouped
@@ -38,7 +39,10 @@ def routine(at: Rendering, node: Instruct, small: str) -> str:
         if not isinstance(watched, Name):
             return at.lost(node, "a search for what is no name")
         name = at.job.of_parts("search", watched.name)
-        condition = at.render(watched) if at.type_of(watched) == "bool" else f"{grouped(at.render(watched))}=1"
+        low = {"negflank", "lowlevel"} & set(options_of(node.arguments))
+        condition = at.render(watched) if at.type_of(watched) == "bool" else f"{grouped(at.render(watched))}={0 if low else 1}"
+        if low:
+            name = at.job.of_parts("search", watched.name, "low")
         lines = [f"  IF NOT ({condition}) RAISE {at.job.error('ERR_WHLSEARCH')};"]
     text = ["! Moves all the way, and then reads what was searched for.", head.format(name), moved[0], *lines, moved[1], "ENDPROC"]
     return at.add(name, "\n".join(text))

@@ -7,7 +7,8 @@ from .job import Job
 from .model import Signal, bit_name
 from .rendering import Rendering, grouped, inner
 from .report import TO_DECIDE
-from .tree import Call, Expression, Instruct, Name, Parameter
+from .tree import Call, Expression, Instruct, Name
+from .tree_items import Parameter
 from . import types
 
 GROUPS = ("GI", "GO")
@@ -73,13 +74,21 @@ def signal_number(at: Rendering, node: Expression, kind: str) -> str:
     return at.add(name, f"CONST num {name}:={at.job.number_of(signal.name)};")
 
 
+def value_of_parameter(at: Rendering, node: Name) -> str:
+    """The value of what is declared as a signal: a parameter, or an alias."""
+    if isinstance(at.datum(node.name), Parameter):
+        return value_of_passed(at, node.name)
+    found = signal_value(at, node)
+    return found if found is not None else at.lost(node, f"{node.name} is an alias of no signal that is known")
+
+
 def value_of_passed(at: Rendering, name: str) -> str:
-    return f"{helper(at, 'value')}({name})"
+    return f"{supplied_name(at, 'value')}({name})"
 
 
-def helper(at: Rendering, what: str) -> str:
+def supplied_name(at: Rendering, what: str) -> str:
     """The routine that does something with a signal by its number. It is written when all signals that are passed are known."""
-    at.job.helpers.add(what)
+    at.job.supplied.add(what)
     return f"abb_{what}"
 
 
@@ -87,9 +96,9 @@ def helper(at: Rendering, what: str) -> str:
 DONE: Dict[str, str] = {"Set": "Set {0};", "Reset": "Reset {0};", "SetDO": "SetDO {0},value;", "PulseDO": "Set {0};\n    Reset {0};"}
 
 
-def write_helpers(job: Job, value_of: Dict[str, str]) -> None:
+def write_supplied(job: Job, value_of: Dict[str, str]) -> None:
     """Writes the routines that do something with a signal by its number; `value_of` has the texts of the signals' values."""
-    for what in sorted(job.helpers):
+    for what in sorted(job.supplied):
         signals = [(n + 1, job.backup.signals[it]) for n, it in enumerate(job.passed)]
         if what == "value":
             lines = ["FUNC num abb_value(num signal)", "  TEST signal"]
@@ -106,7 +115,7 @@ def write_helpers(job: Job, value_of: Dict[str, str]) -> None:
 
 
 def values_of_passed(at: Rendering) -> Dict[str, str]:
-    return {it: value_text(at, at.job.backup.signals[it]) for it in at.job.passed} if "value" in at.job.helpers else {}
+    return {it: value_text(at, at.job.backup.signals[it]) for it in at.job.passed} if "value" in at.job.supplied else {}
 
 
 def output(at: Rendering, node: Instruct, number: int = 0) -> Optional[Signal]:
@@ -126,10 +135,17 @@ def set_one(at: Rendering, node: Instruct) -> str:
     """Set, Reset."""
     signal = output(at, node)
     if signal is None:
-        return f"{helper(at, node.name.capitalize())} {at.source(argument(at, node, 0))};"
+        return f"{supplied_name(at, node.name.capitalize())} {at.source(argument(at, node, 0))};"
     if signal.kind in GROUPS:
         return f"{group_setter(at, signal)} {2**signal.bits - 1 if node.name.lower() == 'set' else 0};"
-    return at.source(node)
+    return f"{node.name} {signal.name};" if at.source(argument(at, node, 0)) != signal.name else at.source(node)
+
+
+def alias_io(at: Rendering, node: Instruct) -> Optional[str]:
+    """AliasIO: the alias stands for its signal, where it has only one."""
+    if named(at, node, 1).name.lower() not in at.job.aliases:
+        at.lost(node, "an alias of several signals")
+    return None
 
 
 def set_do(at: Rendering, node: Instruct) -> str:
@@ -137,14 +153,14 @@ def set_do(at: Rendering, node: Instruct) -> str:
         at.note(TO_DECIDE, node, f"{at.source(node)}: the output changes at once, without its delay")
     signal, value = output(at, node), argument(at, node, 1)
     if signal is None:
-        return f"{helper(at, 'SetDO')} {at.source(argument(at, node, 0))},{at.render(value)};"
+        return f"{supplied_name(at, 'SetDO')} {at.source(argument(at, node, 0))},{at.render(value)};"
     return kept(at, node) if not options_of(node.arguments) else f"SetDO {signal.name},{at.render(value)};"
 
 
 def pulse_do(at: Rendering, node: Instruct) -> str:
     signal = output(at, node)
     if signal is None:
-        return f"{helper(at, 'PulseDO')} {at.source(argument(at, node, 0))};"
+        return f"{supplied_name(at, 'PulseDO')} {at.source(argument(at, node, 0))};"
     name = at.job.of_parts("pulse", signal.name)
     text = f"! PulseDO {signal.name}: both edges, one after the other.\nPROC {name}()\n  Set {signal.name};\n  Reset {signal.name};\nENDPROC"
     return f"{at.add(name, text)};"
@@ -154,7 +170,7 @@ def invert_do(at: Rendering, node: Instruct) -> str:
     signal = output(at, node)
     if signal is None:
         own = at.source(argument(at, node, 0))
-        return f"{helper(at, 'SetDO')} {own},1-{value_of_passed(at, own)};"
+        return f"{supplied_name(at, 'SetDO')} {own},1-{value_of_passed(at, own)};"
     return f"SetDO {signal.name},1-DOutput({signal.name});"
 
 
@@ -176,6 +192,13 @@ def set_ao(at: Rendering, node: Instruct) -> str:
     return f"{analog(at, signal)}:={at.render(argument(at, node, 1))};"
 
 
+def bit(at: Rendering, node: Instruct) -> str:
+    """BitSet, BitClear."""
+    place = at.render(argument(at, node, 0))
+    name = "abb_BitSet" if node.name.lower() == "bitset" else "abb_BitClear"
+    return f"{place}:={at.need(name)}({place},{at.render(argument(at, node, 1))});"
+
+
 # Functions
 
 
@@ -187,13 +210,13 @@ def value_function(at: Rendering, node: Call) -> str:
 def d_output(at: Rendering, node: Call) -> str:
     found = inner(only(at, node))
     signal = at.job.signal(found.name) if isinstance(found, Name) and not passed_name(at, found) else None
-    return at.source(node) if signal and signal.kind == "DO" else at.render(found)
+    return f"DOutput({signal.name})" if signal and signal.kind == "DO" else at.render(found)
 
 
 def test_di(at: Rendering, node: Call) -> str:
     found = inner(only(at, node))
     signal = at.job.signal(found.name) if isinstance(found, Name) and not passed_name(at, found) else None
-    return at.source(node) if signal and signal.kind == "DI" and not signal.is_crossed else f"({grouped(at.render(found))}=1)"
+    return f"TestDI({signal.name})" if signal and signal.kind == "DI" and not signal.is_crossed else f"({grouped(at.render(found))}=1)"
 
 
 def only(at: Rendering, node: Call) -> Expression:
@@ -201,6 +224,6 @@ def only(at: Rendering, node: Call) -> Expression:
     return values[0] if len(values) == 1 else at.lost(node, f"{node.name} takes one argument")
 
 
-INSTRUCTIONS.update({"set": set_one, "reset": set_one, "setdo": set_do, "pulsedo": pulse_do, "invertdo": invert_do, "setgo": set_go, "setao": set_ao})
+INSTRUCTIONS.update({"set": set_one, "reset": set_one, "setdo": set_do, "pulsedo": pulse_do, "invertdo": invert_do, "setgo": set_go, "aliasio": alias_io, "setao": set_ao, "bitset": bit, "bitclear": bit})
 FUNCTIONS.update({it: value_function for it in ("dinput", "ginput", "goutput", "ainput", "aoutput", "ginputdnum", "goutputdnum")})
 FUNCTIONS.update({"doutput": d_output, "testdi": test_di, "validio": lambda at, node: "TRUE"})

@@ -3,7 +3,8 @@ from dataclasses import dataclass
 from typing import Iterator, List, Optional, Set
 
 from .literals import Literals, Value, jointtarget, numbers, robtarget
-from .tree import Call, Expression, Instruct, Name, Routine
+from .tree import Call, Expression, Instruct, Name
+from .tree_items import Routine
 from .walking import nodes_in
 
 MOVES = ("movej", "movel", "moveabsj", "moveextj", "movejdo", "moveldo", "movejsync", "movelsync")

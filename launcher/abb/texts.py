@@ -109,4 +109,5 @@ INSTRUCTIONS.update({"tpwrite": tp_write, "tperase": tp_erase, "errwrite": err_w
 INSTRUCTIONS.update({"tpreadfk": tp_read, "tpreadnum": tp_read, "tpreaddnum": tp_read})
 INSTRUCTIONS.update({"stop": stop, "break": stop, "exitcycle": exit_cycle, "uimsgwriteabort": lambda at, node: None})
 FUNCTIONS.update({it: ui_function for it in ("uilistview", "uimessagebox", "uinumentry", "uinumtune", "uidnumentry", "uidnumtune")})
+FUNCTIONS["uialphaentry"] = lambda at, node: f"{at.need('abb_text')}({ui_text(at, node.arguments)})"
 FUNCTIONS["uiclientexist"] = lambda at, node: "TRUE"

@@ -3,14 +3,15 @@ from typing import List, Optional
 
 from .expressions import options_of, values_of
 from .instructions import INSTRUCTIONS, argument
-from .moves import moves_to
+from .moves import LAST, moves_to
 from .rendering import Rendering
+from .report import TO_DECIDE
 from .signal_rules import group_setter
 from .together import before_move
 from .tree import Argument, Expression, Instruct, Name
 
 # The moves with triggers: how many targets come before the speed.
-MOVES = {"triggl": 1, "triggj": 1, "triggc": 2, "trigglios": 1, "triggjios": 1}
+MOVES = {"triggl": 1, "triggj": 1, "triggc": 2, "trigglios": 1, "triggjios": 1, "triggabsj": 1}
 FURTHER = [f"t{n}" for n in range(2, 9)]
 
 
@@ -51,26 +52,29 @@ def given_value(at: Rendering, node: Instruct, found: dict) -> str:
 
 
 def trigg_int(at: Rendering, node: Instruct) -> str:
-    """TriggInt, TriggCheckIO: the trigger sets an output of the cell, and the interrupt is ordered on that."""
+    """TriggInt: the trigger sets an output of the cell, and the interrupt is ordered on that."""
     place, interrupt = argument(at, node, 0), values_of(node.arguments)[-1]
     name = interrupt.name if isinstance(interrupt, Name) else at.lost(node, "an interrupt that is no name")
     signal = at.job.add_signal(at.job.of_parts("trigger", name), "do")
     done = f"Set {signal}; Reset {signal};"
-    helper = at.job.of_parts("order", signal)
-    lines = [f"PROC {helper}(VAR intnum i)", f"  ISignalDO {signal},1,i;", "ERROR", "  TRYNEXT;", "ENDPROC"]
-    at.add(helper, "\n".join(lines))
-    return f"{at.render(place)}:={at.job.trigger(done)}; {helper} {at.render(interrupt)};"
+    supplied_name = at.job.of_parts("order", signal)
+    lines = [f"PROC {supplied_name}(VAR intnum i)", f"  ISignalDO {signal},1,i;", "ERROR", "  TRYNEXT;", "ENDPROC"]
+    at.add(supplied_name, "\n".join(lines))
+    return f"{at.render(place)}:={at.job.trigger(done)}; {supplied_name} {at.render(interrupt)};"
+
+
+def trigg_check(at: Rendering, node: Instruct) -> str:
+    """TriggCheckIO: its interrupt comes only if the check fails, so the trigger does nothing."""
+    at.note(TO_DECIDE, node, f"{at.source(node)}: the check is not made")
+    return f"{at.render(argument(at, node, 0))}:=0;"
 
 
 def trigg_move(at: Rendering, node: Instruct) -> str:
     count = MOVES[node.name.lower()]
     targets = [argument(at, node, it) for it in range(count)]
-    moved = moves_to(at, node, targets, count, tool_at(at, node, count), "robtarget")
+    kind = "jointtarget" if node.name.lower() == "triggabsj" else "robtarget"
+    moved = moves_to(at, node, targets, count, LAST, kind)
     return before_move(at, node) + moved + "".join(f" {fire(at, it)}" for it in fired(at, node, count))
-
-
-def tool_at(at: Rendering, node: Instruct, count: int) -> int:
-    return len(values_of(node.arguments)) - 1
 
 
 def fired(at: Rendering, node: Instruct, count: int) -> List[Expression]:
@@ -88,5 +92,5 @@ def fire(at: Rendering, trigger: Expression) -> str:
     return f"{at.job.fire()} {at.render(trigger)};"
 
 
-INSTRUCTIONS.update({"triggio": defined, "triggequip": defined, "triggrampao": defined, "triggint": trigg_int, "triggcheckio": trigg_int})
+INSTRUCTIONS.update({"triggio": defined, "triggequip": defined, "triggrampao": defined, "triggint": trigg_int, "triggcheckio": trigg_check})
 INSTRUCTIONS.update({it: trigg_move for it in MOVES})

@@ -2,7 +2,8 @@
 from typing import TYPE_CHECKING, Dict
 
 from .constants import component_type
-from .tree import Binary, Call, Component, Expression, Group, Name, Number, Routine, Text, Truth, Unary
+from .tree import Binary, Call, Component, Expression, Group, Name, Number, Text, Truth, Unary
+from .tree_items import Routine
 
 if TYPE_CHECKING:
     from .rendering import Rendering

@@ -2,7 +2,8 @@
 from typing import Dict, List, NamedTuple, Optional, Tuple, Union
 
 from .literals import Literals
-from .tree import Aggregate, Argument, Call, Expression, Instruct, Name, Parameter, Routine
+from .tree import Aggregate, Argument, Call, Expression, Instruct, Name
+from .tree_items import Parameter, Routine
 from .walking import nodes_in
 
 CallNode = Union[Call, Instruct]
