@@ -9,19 +9,7 @@ from .asked import Asked, ended, found_program, helped, made_program, misplaced,
 from .places import IS_INSTALLED
 from .program import Program
 from .run_words import OF_RUNS, clearance, listed
-from .say import (
-    NO_PROGRAM,
-    NOT_PRINTED,
-    REFUSED,
-    STOPPED,
-    NotPrinted,
-    broken,
-    open_closed_streams,
-    put_err,
-    put_out,
-    say,
-    wrong,
-)
+from .say import NO_PROGRAM, NOT_PRINTED, REFUSED, STOPPED, NotPrinted, broken, open_closed_streams, put_err, put_out, say, wrong
 
 
 def main(given: Sequence[str]) -> int:

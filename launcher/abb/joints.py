@@ -1,6 +1,6 @@
 """The reading of positions by a table of joints: a row of joints.csv for each position with its tool and work object."""
 from pathlib import Path
-from typing import Dict, List, NamedTuple, Optional, Sequence, Tuple, Union
+from typing import Dict, List, Optional, Sequence, Tuple, Union
 
 from . import place_texts as texts
 from .joint_texts import NO_AXES, axes_text, computed_function, plain_value

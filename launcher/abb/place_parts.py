@@ -8,7 +8,7 @@ from .literals import numbers, robtarget
 from .orientations import Named
 from .reading import Context
 from .report import GUESSED
-from .tree import Aggregate, Argument, Assign, Call, Component, Expression, Index, Name, Node
+from .tree import Aggregate, Assign, Call, Component, Expression, Name
 from .tree_items import Data
 
 AXIS = {"x": 1, "y": 2, "z": 3}

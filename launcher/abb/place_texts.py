@@ -44,7 +44,7 @@ def moved(name: str, frame: Frame, orientations: Sequence[Vector]) -> str:
         return function(f"jointtarget {name}(jointtarget p)", [f"RETURN [[{places},{SAME_ANGLES}],p.extax];"])
     turn = angles_of(matrix)
     if abs(matrix[2][2] - 1) < 1e-9:
-        lines = [f"VAR num z;", f"z:={plus(ANGLES[2], turn[2])};", *kept_in_range("z")]
+        lines = ["VAR num z;", f"z:={plus(ANGLES[2], turn[2])};", *kept_in_range("z")]
         angles = f"{ANGLES[0]},{ANGLES[1]},z"
         return function(f"jointtarget {name}(jointtarget p)", [*lines, f"RETURN [[{places},{angles}],p.extax];"])
     lines = []

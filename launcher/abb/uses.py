@@ -1,8 +1,8 @@
 """Which tool and work object each position is used with: by the statements that name them together, calls of process routines included."""
-from typing import Dict, List, NamedTuple, Optional, Tuple, Union
+from typing import Dict, List, NamedTuple, Optional, Union
 
 from .literals import Literals
-from .tree import Aggregate, Argument, Call, Expression, Instruct, Name
+from .tree import Call, Expression, Instruct, Name
 from .tree_items import Parameter, Routine
 from .walking import nodes_in
 
