@@ -118,7 +118,7 @@ def try_completion():
     cases = (
         (["che"], "check"),
         (["explain", "CornerZ"], "CornerZone"),
-        (["--pl"], "--plain"),
+        (["--plai"], "--plain"),
         (["check", f"{EXAMPLES}/first_move/"], str(FIRST)),
         (["completion", "z"], "zsh"),
         (["package", "--gate", f"{EXAMPLES}/first_move/ce"], str(FIRST)),
