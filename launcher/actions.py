@@ -63,7 +63,7 @@ OPTIONS = (
     Option("--keep", False, "with why, before the name of a file: writes the history of the run there", "FILE"),
     Option("--watched", False, "with clearance: adds the least gap of each zone while it was watched (W)"),
     Option("--lcov", False, "with cover: prints the counts as a tracefile of lcov, for editors"),
-    Option("--tasks", False, "with new, before a number: how many tasks the cell has, 1 to 16"),
+    Option("--tasks", False, "with new, before a number: how many tasks the cell has, 1 to 16", "N"),
     Option("-o", False, "with show, before the name of a file: writes the page there; with package, before that of\na folder", "NAME"),
     Option("--gate", False, "with package, before the name of a file with what rt ci printed: its last lines go into\nthe record", "FILE"),
     Option("--source", False, "with list: prints each operation below the line of the module that it belongs to"),

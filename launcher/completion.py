@@ -98,7 +98,7 @@ def script(shell: str, command: str = COMMAND) -> str:
         actions=" ".join(it.name for it in ACTIONS),
         takes_cell="|".join(cell),
         takes_history="|".join(history),
-        takes_name="|".join(it.name for it in OPTIONS if it.takes),
+        takes_name="|".join(it.name for it in OPTIONS if it.takes not in ("", "N")),
         takes_folders="|".join(it.name for it in ACTIONS if it.takes == "BACKUP OUT"),
         fish_folders=" ".join(it.name for it in ACTIONS if it.takes == "BACKUP OUT"),
         words=" ".join(known_words()),

@@ -9,7 +9,7 @@ from pathlib import Path
 from typing import FrozenSet, Iterator, List, Sequence
 
 from . import actions, names, toml_places
-from .places import TOP
+from .places import FIRST_CELL, TOP
 from .say import put_out, wrong
 from .texts import read_cell
 from .tokens import NAME, WORD, tokens_of
@@ -46,7 +46,8 @@ def examples(words: Sequence[bytes]) -> int:
     if not found:
         near = actions.nearest(word, known(every))
         return wrong(f"no example shows {word!a}{f': did you mean {near}?' if near else ''}")
-    put_out("".join(f"examples/{it.name}/cell.toml\n    {it.says}\n" for it in found))
+    above = FIRST_CELL.partition("examples/")[0]
+    put_out("".join(f"{above}examples/{it.name}/cell.toml\n    {it.says}\n" for it in found))
     return 0
 
 
