@@ -58,7 +58,7 @@ ACTIONS = (
 OPTIONS = (
     Option("--history", True, "prints every event of a run, as a line H, in place of its setpoints and texts"),
     Option("--all", False, "with check: goes on after an error, and shows up to 50 errors at once, or N with --all=N"),
-    Option("--abb", False, "with check: says what ABB's controller refuses of a cell that is accepted here (docs/TO_ABB.md)"),
+    Option("--abb", False, "with check: says what ABB's controller refuses of a cell that is accepted here\n(docs/TO_ABB.md)"),
     Option("--run", False, "with table, show and why: gives each task a thread, as run does"),
     Option("--keep", False, "with why, before the name of a file: writes the history of the run there", "FILE"),
     Option("--watched", False, "with clearance: adds the least gap of each zone while it was watched (W)"),
@@ -71,7 +71,7 @@ OPTIONS = (
     Option("--joints", False, "with import, before the name of a table: positions are joints, and the table has them", "FILE"),
     Option("--add", False, "with import, before the name of a file: inputs and answers, which end the script of the cell", "FILE"),
     Option("--cross", False, "with import, before the name of a file: more cross connections, in the form of EIO.cfg", "FILE"),
-    Option("--again", False, "with import: imports into a folder that has files, and tells what changed since the last time"),
+    Option("--again", False, "with import: imports into a folder that has files, and tells what changed since\nthe last time"),
     Option("--plain", False, "prints only the program's own lines"),
     Option("--proved", False, "waits for the proof if the program is not built yet, instead of giving an unproved answer"),
     Option("--unproved", False, "answers with the unproved program, even if the proved one is built"),
